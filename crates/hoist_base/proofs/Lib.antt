@@ -1,0 +1,2 @@
+pub mod ValidLemmas
+pub mod RouteLemmas

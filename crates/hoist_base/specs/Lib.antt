@@ -1,0 +1,5 @@
+pub mod LineData
+pub mod Valid
+pub mod Routes
+pub mod PartsData
+pub mod Tests
