@@ -1,0 +1,4 @@
+// Laws of legal timetables.
+#![tactic(auto)]
+
+pub mod laws;

@@ -1,0 +1,4 @@
+pub mod Motion
+pub mod Timetable
+pub mod Legal
+pub mod Run
