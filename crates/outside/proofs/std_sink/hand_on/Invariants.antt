@@ -1,0 +1,6 @@
+-- Nothing was taken yet.
+use Rattle.std.specs.Io.KnownBytes.{Keeps}
+use Rattle.outside.proofs.std_sink.hand_on.Given as goal
+
+abbrev pub invariant-loop : goal.invariant-loop
+invariant-loop g l = Keeps (g.W.Write.contents l.fn.out) (g.W.Write.contents l.out)
