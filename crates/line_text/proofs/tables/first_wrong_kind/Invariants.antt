@@ -1,0 +1,8 @@
+use Rattle.std.proofs.Common.{◌≡◌, drop}
+use Rattle.toml.specs.View.{view}
+use Rattle.line_text.specs.Tables.{first_some, kind_why}
+use Rattle.line_text.proofs.tables.first_wrong_kind.Given as goal
+
+abbrev pub invariant-loop-rule : goal.invariant-loop-rule
+invariant-loop-rule l =
+    first_some (kind_why l.place (view l.table)) l.rules ≡ first_some (kind_why l.place (view l.table)) (drop l.rule-index l.rules)

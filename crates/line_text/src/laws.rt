@@ -1,0 +1,7 @@
+// Laws on line files, each the contract of a call that does nothing.
+ghost use Rattle.line_text.specs.File.{LineFilesAreRead};
+
+/// Reading gives a line exactly where the bytes are a file of it.
+pub fn line_files_are_read()
+    ensures { LineFilesAreRead }
+{}

@@ -1,0 +1,20 @@
+// The line file: reading it with the first fault named, and writing it.
+#![tactic(auto)]
+
+mod fields;
+mod laws;
+mod parts;
+mod read;
+mod refusal;
+mod rules;
+mod tables;
+#[cfg(test)]
+mod tests;
+mod values;
+mod why;
+
+pub use fields::{Field, Kind, Rule};
+pub use laws::line_files_are_read;
+pub use read::read_line;
+pub use refusal::refusal_text;
+pub use why::{Key, LineRead, Place, Why};
