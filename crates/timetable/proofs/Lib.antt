@@ -1,0 +1,10 @@
+pub mod Kept
+pub mod Meetings
+pub mod Pairs
+pub mod TrackFaults
+pub mod CarryFaults
+pub mod HoldFaults
+pub mod WindowFaults
+pub mod Legality
+pub mod Joins
+pub mod FitLemmas
