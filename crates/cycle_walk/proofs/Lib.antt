@@ -1,0 +1,9 @@
+pub mod ValueLemmas
+pub mod FirstLemmas
+pub mod TrailLemmas
+pub mod ClosedLemmas
+pub mod ReadLemmas
+pub mod BackLemmas
+pub mod FoundLemmas
+pub mod ClimbLemmas
+pub mod LawLemmas

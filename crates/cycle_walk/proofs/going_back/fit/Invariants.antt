@@ -1,0 +1,7 @@
+use Rattle.std.proofs.Common.{◌≡◌, ℕ, ◌<◌, false}
+use Rattle.longest_path.specs.Rounds.{weights_at}
+use Rattle.cycle_walk.specs.Closed.{fits}
+use Rattle.cycle_walk.proofs.going_back.fit.Given as goal
+
+abbrev pub invariant-loop-k : goal.invariant-loop-k
+invariant-loop-k l = (x : ℕ) → x < l.k → fits l.s (weights_at l.s l.period) l.m l.j x ≡ false

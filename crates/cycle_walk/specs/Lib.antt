@@ -1,0 +1,5 @@
+pub mod Values
+pub mod Closed
+pub mod Trail
+pub mod Climb
+pub mod Laws

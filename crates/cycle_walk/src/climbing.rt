@@ -1,0 +1,122 @@
+//! The climb to the least feasible period.
+
+ghost use Rattle.std.specs.Prelude.{◌≡◌, ℕ, ◌≤◌, ◌<◌, ◌<ℤ◌, ◌↔◌, pos, length, unsigned_abs, IfOk, IsTrue};
+ghost use Rattle.std.specs.Int.{div_ceil};
+ghost use Rattle.longest_path.specs.System.{IsSystem};
+ghost use Rattle.longest_path.specs.Rounds.{IsTable};
+ghost use Rattle.cycle_walk.specs.Closed.{IsClosedWalk, HasSmallSums};
+ghost use Rattle.cycle_walk.specs.Climb.{climbed, IsLeastFeasible, AreRefuted, AllWalks};
+
+use crate::Walk;
+use crate::closed_walks::walk_within;
+use longest_path::{Room, System};
+use std::alloc::{AllocError, Global};
+
+/// What `climb` answers.
+#[derive(Debug, Drop)]
+pub enum Climbed {
+    /// The least feasible period below the cap; `low` refutes all below it, and is missing where that is period 1.
+    Floor {
+        period: u32,
+        low: Option<Walk>,
+    },
+    /// No period below the cap is feasible: `low` refutes those up to some period, `high` those from there on.
+    Shut {
+        low: Option<Walk>,
+        high: Option<Walk>,
+    },
+}
+
+#[inline]
+fn falls(q: i64) -> bool
+    ensures { IsTrue result ↔ (q <ℤ pos 0) }
+{
+    q < 0
+}
+
+// The least period that a walk does not refute, where its q is below 0.
+fn least_kept(w: i64, q: i64) -> u32
+    requires w { unsigned_abs w ≤ 1240000000 }
+    requires q { q <ℤ pos 0 }
+    ensures { result ≡ div_ceil (unsigned_abs w) (unsigned_abs q) }
+{
+    w.unsigned_abs().div_ceil(q.unsigned_abs()) as u32
+}
+
+fn climb_within(
+    alloc: Global,
+    s: &System,
+    cap: u32,
+    weights: &mut [i64],
+    rows: &mut [i64],
+    seen: &mut [u32],
+    back: &mut [u32],
+) -> Result<Climbed, AllocError>
+    requires valid { IsSystem s.now }
+    requires cap { (2 ≤ cap) × (cap ≤ 20001) }
+    requires weights { length weights.old ≡ length s.now.arcs }
+    requires table { IsTable s.now rows.old }
+    requires seen { length seen.old ≡ s.now.nodes }
+    requires back { length back.old ≡ s.now.nodes }
+    ensures climb { IfOk result (λ answer. answer ≡ climbed s.now cap) }
+    ensures least { IfOk result (λ answer. IsLeastFeasible s.now cap answer) }
+    ensures refuted { IfOk result (λ answer. AreRefuted cap answer) }
+    ensures closed { IfOk result (λ answer. AllWalks (IsClosedWalk s.now) answer) }
+{
+    let mut period = 1;
+    let mut low = None;
+    while period < cap {
+        let found = walk_within(alloc, s, period, weights, rows, seen, back)?;
+        let Some(walk) = found else {
+            return Ok(Climbed::Floor { period, low });
+        };
+        if !falls(walk.q()) {
+            return Ok(Climbed::Shut {
+                low,
+                high: Some(walk),
+            });
+        }
+        period = least_kept(walk.w(), walk.q());
+        low = Some(walk);
+    }
+    Ok(Climbed::Shut { low, high: None })
+}
+
+/// The least feasible period below a cap, with the last walk that raised it, which refutes all periods below; or that there is none, with walks that refute every period below the cap.
+///
+/// From period 1 each canonical closed walk with a q below 0 raises the period to the least one that it does not refute; one with any other q refutes all later periods too and ends the climb. Each step costs one `closed_walk_in`. The room is lent and serves again; beside it only the walks take memory.
+pub fn climb_in(alloc: Global, room: &mut Room, s: &System, cap: u32) -> Result<Climbed, AllocError>
+    requires { (2 ≤ cap) × (cap ≤ 20001) }
+    ensures climb { IfOk result (λ answer. answer ≡ climbed s.now cap) }
+    ensures least { IfOk result (λ answer. IsLeastFeasible s.now cap answer) }
+    ensures refuted { IfOk result (λ answer. AreRefuted cap answer) }
+    ensures closed { IfOk result (λ answer. AllWalks (IsClosedWalk s.now) answer) }
+    ensures small { IfOk result (λ answer. AllWalks HasSmallSums answer) }
+{
+    room.fit(s)?;
+    let n = s.nodes() as usize;
+    let answer = climb_within(
+        alloc,
+        s,
+        cap,
+        &mut room.weights[..s.arcs().len()],
+        &mut room.rows[..(n + 1) * n],
+        &mut room.seen[..n],
+        &mut room.back[..n],
+    )?;
+    Ok(answer)
+}
+
+/// `climb_in` in room of its own.
+pub fn climb(alloc: Global, s: &System, cap: u32) -> Result<Climbed, AllocError>
+    requires { (2 ≤ cap) × (cap ≤ 20001) }
+    ensures climb { IfOk result (λ answer. answer ≡ climbed s.now cap) }
+    ensures least { IfOk result (λ answer. IsLeastFeasible s.now cap answer) }
+    ensures refuted { IfOk result (λ answer. AreRefuted cap answer) }
+    ensures closed { IfOk result (λ answer. AllWalks (IsClosedWalk s.now) answer) }
+    ensures small { IfOk result (λ answer. AllWalks HasSmallSums answer) }
+{
+    let mut room = Room::new(alloc);
+    let answer = climb_in(alloc, &mut room, s, cap)?;
+    Ok(answer)
+}

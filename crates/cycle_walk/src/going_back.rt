@@ -1,0 +1,103 @@
+//! Going back over walk values from a node whose value grows in the last round.
+
+ghost use Rattle.std.specs.Prelude.{◌≡◌, ℕ, ◌+◌, ◌-◌, ◌*◌, ◌≤◌, ◌<◌, ◌↔◌, ◌+ℤ◌, ◌<ℤ◌, length, unsigned_abs, int_lt, IsTrue};
+ghost use Rattle.std.specs.Ordering.{int_eq};
+ghost use Rattle.longest_path.specs.Rounds.{weights_at, cell};
+ghost use Rattle.cycle_walk.specs.Values.{AreValues};
+ghost use Rattle.cycle_walk.specs.Closed.{first_below, first_fit, Rises};
+ghost use Rattle.cycle_walk.specs.Trail.{IsTrail};
+
+use longest_path::System;
+
+#[inline]
+fn is_below(now: i64, later: i64) -> bool
+    ensures { IsTrue result ↔ (now <ℤ later) }
+{
+    now < later
+}
+
+// The first node that grew in the last row, or n.
+pub(crate) fn first_grown(rows: &[i64], n: usize) -> usize
+    requires n { (1 ≤ n) × (n ≤ 124) }
+    requires table { length rows.now ≡ (n + 1) * n }
+    requires small { (r i : ℕ) → r ≤ n → i < n → unsigned_abs (cell n rows.now r i) ≤ 4000000000000000 }
+    ensures { result ≡ first_below (λ i. int_lt (cell n rows.now (n - 1) i) (cell n rows.now n i)) n }
+{
+    let old = (n - 1) * n;
+    let new = n * n;
+    for i in 0..n {
+        if is_below(rows[old + i], rows[new + i]) {
+            return i;
+        }
+    }
+    n
+}
+
+#[inline]
+fn gives(from: i64, weight: i64, wanted: i64) -> bool
+    requires from { unsigned_abs from ≤ 4000000000000000 }
+    requires weight { unsigned_abs weight ≤ 30000000000000 }
+    ensures { result ≡ int_eq (from +ℤ weight) wanted }
+{
+    from + weight == wanted
+}
+
+// The first constraint that ends at node j and brings it its value of m + 1.
+fn fit(s: &System, period: u32, rows: &[i64], m: usize, j: u32) -> usize
+    requires period { period ≤ 20001 }
+    requires m { m < s.now.nodes }
+    requires j { j < s.now.nodes }
+    requires rows { AreValues s.now period s.now.nodes rows.now }
+    ensures { result ≡ first_fit s.now (weights_at s.now period) m j }
+{
+    let n = s.nodes() as usize;
+    let old = m * n;
+    let wanted = rows[old + n + j as usize];
+    let arcs = s.arcs();
+    for k in 0..arcs.len() {
+        let a = arcs[k];
+        if a.to == j && gives(rows[old + a.from as usize], a.weight(period), wanted) {
+            return k;
+        }
+    }
+    arcs.len()
+}
+
+// The steps of a way back between the two places of the first node that came twice.
+#[derive(Clone, Copy)]
+pub(crate) struct Turn {
+    pub(crate) first: u32,
+    pub(crate) end: u32,
+}
+
+// Goes back step by step up to the first node that comes again; `seen` tells at which step each node came.
+pub(crate) fn go_back(
+    s: &System,
+    period: u32,
+    rows: &[i64],
+    start: u32,
+    seen: &mut [u32],
+    back: &mut [u32],
+) -> Turn
+    requires period { period ≤ 20001 }
+    requires rows { AreValues s.now period s.now.nodes rows.now }
+    requires start { start < s.now.nodes }
+    requires rises { Rises s.now (weights_at s.now period) start }
+    requires seen { length seen.old ≡ s.now.nodes }
+    requires back { length back.old ≡ s.now.nodes }
+    ensures { IsTrail s.now period start back.new result.first result.end }
+{
+    let n = s.nodes();
+    seen.fill(n);
+    let mut j = start;
+    let mut t = 0;
+    while seen[j as usize] == n {
+        seen[j as usize] = t;
+        let k = fit(s, period, rows, (n - 1 - t) as usize, j);
+        back[t as usize] = k as u32;
+        j = s.arcs()[k].from;
+        t += 1;
+    }
+    let first = seen[j as usize];
+    Turn { first, end: t }
+}

@@ -1,0 +1,7 @@
+pub mod System
+pub mod Rounds
+pub mod Answer
+pub mod Laws
+pub mod Room
+pub mod Start
+pub mod Chain

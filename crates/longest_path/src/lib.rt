@@ -1,0 +1,13 @@
+//! Systems of constraints `t_to - t_from >= w + q * period` between the ticks of nodes, and their pointwise least solutions.
+#![tactic(auto)]
+
+pub mod laws;
+mod least_ticks;
+mod rounds;
+mod systems;
+#[cfg(test)]
+mod tests;
+
+pub use least_ticks::{LeastTicks, least, least_in};
+pub use rounds::{Room, fill};
+pub use systems::{Arc, System};
