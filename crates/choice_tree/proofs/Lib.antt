@@ -1,0 +1,4 @@
+pub mod NodeLemmas
+pub mod SplitLemmas
+pub mod OrderLemmas
+pub mod PathLemmas
