@@ -1,0 +1,19 @@
+// Constraints and questions below a path of decisions, and that no legal timetable falls between the branches of a tree.
+#![tactic(auto)]
+
+mod arcs;
+mod failing;
+mod holds;
+pub mod laws;
+mod places;
+mod questions;
+mod rides;
+mod systems;
+mod tanks;
+#[cfg(test)]
+mod tests;
+mod times;
+
+pub use failing::fails;
+pub use questions::fits;
+pub use systems::{base_of, constraint_of, decide, system_of};
