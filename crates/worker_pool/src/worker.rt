@@ -1,0 +1,67 @@
+//! One worker at the board.
+
+ghost use Rattle.std.specs.Prelude.{◌≡◌, ℕ, ◌+◌, ◌^◌, ◌<◌, List, [], ◌∷◌, ◌++◌, length, map, All, IfOk, OnOk};
+ghost use Rattle.claim_board.specs.Seats.{fresh_seat};
+ghost use Rattle.worker_pool.specs.Pool.{Keeps, Done};
+
+use crate::work::Work;
+use claim_board::{Board, Claim, Seat};
+use outside::Gate;
+use std::alloc::{AllocError, Global};
+
+/// What a worker kept: the number of each job that it claimed, with its answer.
+pub type Kept<T> = Result<Vec<(u32, T)>, AllocError>;
+
+/// Claims and answers jobs until none is left, by a new seat with one claim more than there are
+/// jobs. It passes the gate with each job's number. On want of memory after a claim it stops the
+/// board; where the board was stopped its answer is want of memory too.
+pub fn work_alone<W: Work, G: Gate>(
+    alloc: Global,
+    board: &Board,
+    seat: &mut Seat,
+    work: &W,
+    jobs: &[W::Job],
+    gate: &G,
+) -> Kept<W::Out>
+    requires takes { All (λ job. W.takes work.now job) jobs.now }
+    requires few { length jobs.now < 2 ^ 32 }
+    requires board { board.now.n ≡ length jobs.now }
+    requires seat { seat.old ≡ fresh_seat board.now (length jobs.now + 1) }
+    ensures same { seat.new.board ≡ board.now }
+    ensures counts { seat.new.left + seat.new.used ≡ length jobs.now + 1 }
+    ensures done { IfOk result (λ kept.
+        Done (map (λ job. W.answer_of work.now job) jobs.now) seat.new kept.items) }
+{
+    let mut kept = Vec::new(alloc);
+    loop {
+        let number = match board.claim(seat) {
+            Claim::Index(number) => number,
+            Claim::Exhausted { seen: _ } => return Ok(kept),
+            Claim::Stopped => return Err(AllocError),
+        };
+        gate.pass(u64::from(number));
+        let Ok(()) = keep_answer(alloc, work, jobs, number, &mut kept) else {
+            board.stop(seat);
+            return Err(AllocError);
+        };
+    }
+}
+
+// Answers the job of a number, and keeps both.
+fn keep_answer<W: Work>(
+    alloc: Global,
+    work: &W,
+    jobs: &[W::Job],
+    number: u32,
+    kept: &mut Vec<(u32, W::Out)>,
+) -> Result<(), AllocError>
+    requires takes { All (λ job. W.takes work.now job) jobs.now }
+    requires number { number < length jobs.now }
+    ensures { let answers = map (λ job. W.answer_of work.now job) jobs.now in
+        OnOk result ((list : List ℕ) →
+        Keeps answers list kept.old.items → Keeps answers (list ++ number ∷ []) kept.new.items) }
+{
+    let answer = work.answer(alloc, &jobs[number as usize])?;
+    kept.push((number, answer))?;
+    Ok(())
+}
