@@ -1,0 +1,5 @@
+pub mod Picks
+pub mod RunLog
+pub mod Driving
+pub mod Runner
+pub mod LogLaws

@@ -1,0 +1,11 @@
+// Runs of legal timetables on the tick machine, from an empty line to an empty line.
+#![tactic(auto)]
+
+mod driving;
+pub mod laws;
+mod runner;
+#[cfg(test)]
+mod tests;
+
+pub use driving::drive;
+pub use runner::Runner;

@@ -1,0 +1,28 @@
+// The tick machine: a line that is stepped tick by tick by orders, from local rules alone.
+#![tactic(auto)]
+
+mod beginning;
+mod breach;
+mod driver;
+mod event;
+mod frame;
+mod limits;
+mod log;
+mod lowering;
+mod motions;
+mod moves;
+mod order;
+mod run;
+mod setting;
+mod stations;
+mod stepping;
+#[cfg(test)]
+mod tests;
+
+pub use breach::Breach;
+pub use driver::Driver;
+pub use event::{Event, What};
+pub use frame::{Carry, Frame, Hold, Rest, empty};
+pub use order::{Go, Order};
+pub use run::{Played, play};
+pub use stepping::step;
