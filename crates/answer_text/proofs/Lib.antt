@@ -1,0 +1,5 @@
+pub mod RowLemmas
+pub mod OrderLemmas
+pub mod JoinLemmas
+pub mod SingleLemmas
+pub mod WriteLemmas

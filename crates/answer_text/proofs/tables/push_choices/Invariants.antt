@@ -1,0 +1,8 @@
+use Rattle.std.proofs.Common.{◌≡◌, ◌++◌, length}
+use Rattle.timetable.specs.TimetableData.{timetable_of}
+use Rattle.answer_text.specs.Tables.{each_below, choice_line}
+use Rattle.answer_text.proofs.tables.push_choices.Given as goal
+
+abbrev pub invariant-loop-c : goal.invariant-loop-c
+invariant-loop-c l =
+    l.text.items ≡ l.fn.text.items ++ each_below l.c (λ c. each_below (length l.line.stages) (choice_line l.line (timetable_of l.t) c))

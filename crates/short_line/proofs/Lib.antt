@@ -1,0 +1,5 @@
+pub mod Bounds
+pub mod Trip
+pub mod Plans
+pub mod PlanData
+pub mod Leaf

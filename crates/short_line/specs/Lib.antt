@@ -1,0 +1,4 @@
+pub mod Short
+pub mod Parts
+pub mod Optimal
+pub mod Laws
