@@ -1,0 +1,28 @@
+//! The program: it makes the shelf of real files and standard output, and runs the top call over its words.
+#![tactic(auto)]
+
+use hoist_cli::{Status, hoist};
+use outside::{FileShelf, OpenGate, StdSink};
+use std::process::ExitCode;
+use std::{env, io};
+
+fn main(rt: HostRuntime) -> ExitCode {
+    let alloc = rt.alloc();
+    let Ok(args) = env::args(&rt) else {
+        return Status::Words.exit_code();
+    };
+    let Ok(words) = args.collect::<Vec<String>>(alloc) else {
+        return Status::Memory.exit_code();
+    };
+    let mut shelf = FileShelf::new(&rt);
+    let mut sink = StdSink::new(io::writer(&rt));
+    hoist(
+        &rt,
+        alloc,
+        words.as_slice(),
+        &mut shelf,
+        &mut sink,
+        &OpenGate,
+    )
+    .exit_code()
+}
