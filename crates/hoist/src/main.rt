@@ -8,10 +8,12 @@ use std::{env, io};
 
 fn main(rt: HostRuntime) -> ExitCode {
     let alloc = rt.alloc();
-    let Ok(args) = env::args(&rt) else {
-        return Status::Words.exit_code();
+    // Words that can't be had, such as one that isn't UTF-8, ask nothing.
+    let words = match env::args(&rt) {
+        Ok(args) => args.collect::<Vec<String>>(alloc),
+        Err(_) => Ok(Vec::new(alloc)),
     };
-    let Ok(words) = args.collect::<Vec<String>>(alloc) else {
+    let Ok(words) = words else {
         return Status::Memory.exit_code();
     };
     let mut shelf = FileShelf::new(&rt);
