@@ -5,3 +5,9 @@ pub mod Meets
 pub mod Numbering
 pub mod Numbers
 pub mod Valid
+pub mod WrittenLemmas
+pub mod WrittenLines
+pub mod WrittenNodes
+pub mod NoFault
+pub mod WrittenTables
+pub mod WrittenRead

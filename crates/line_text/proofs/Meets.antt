@@ -145,7 +145,7 @@ table_none place rules t h unknown =
 
 -- ---- what values at keys give
 
-natural_small : (n : ℕ) → n < 2 ^ 32 → natural (pos n) ≡ n
+pub natural_small : (n : ℕ) → n < 2 ^ 32 → natural (pos n) ≡ n
 natural_small n h = rw (lt-ltb n (2 ^ 32) h)
 
 number_on : (o : Option Data) (low high : ℕ) → high < 2 ^ 32 → MatchOption o (true ≡ false) (Allowed (Integer low high))

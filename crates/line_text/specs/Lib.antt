@@ -5,3 +5,4 @@ pub mod Rules
 pub mod File
 pub mod Names
 pub mod Refusal
+pub mod Written

@@ -1,7 +1,12 @@
 // Line files that are read, and what is said of those that aren't.
-use crate::{LineRead, read_line, refusal_text};
+use crate::{LineRead, read_line, refusal_text, write_line};
+use hoist_base::Line;
 use std::alloc::{AllocError, Global};
 use std::test::Fail;
+use worked_lines::{
+    far_tank, one_bath, one_station, rinse_twice, slow_choice, thirteen_stages, two_baths,
+    two_hoists, two_stations,
+};
 
 const ROOT: &str =
     "version = 1\ntrack = 6\ngap = 2\nhoists = 1\ndegree = 1\nmax_period = 100\nload = 0\nunload = 0\n";
@@ -15,6 +20,14 @@ const STAGES: &str =
 // A line whose tanks far and bath serve one stage.
 const FAR_TANK: &str =
     "version = 2\ntrack = 6\ngap = 2\nhoists = 2\ndegree = 1\nmax_period = 100\nload = 0\nunload = 0\n\n[[tank]]\nname = \"load\"\nat = 0\n\n[[tank]]\nname = \"bath\"\nat = 3\n\n[[tank]]\nname = \"out\"\nat = 6\n\n[[tank]]\nname = \"far\"\nat = 5\n\n[[stage]]\ntank = \"load\"\nlift = 1\n\n[[stage]]\ntanks = [\"far\", \"bath\"]\nmin = 5\nmax = 10\nlift = 1\nlower = 1\n\n[[stage]]\ntank = \"out\"\nlower = 1\n";
+
+// The shortest line: no inner stage.
+const TWO_STATIONS: &str =
+    "version = 1\ntrack = 4\ngap = 1\nhoists = 1\ndegree = 1\nmax_period = 100\nload = 2\nunload = 2\n\n[[tank]]\nname = \"load\"\nat = 0\n\n[[tank]]\nname = \"out\"\nat = 4\n\n[[stage]]\ntank = \"load\"\nlift = 1\n\n[[stage]]\ntank = \"out\"\nlower = 1\n";
+
+// A line with a stage of no greatest dwell.
+const RINSE_TWICE: &str =
+    "version = 1\ntrack = 3\ngap = 1\nhoists = 1\ndegree = 1\nmax_period = 100\nload = 0\nunload = 0\n\n[[tank]]\nname = \"load\"\nat = 0\n\n[[tank]]\nname = \"r\"\nat = 1\n\n[[tank]]\nname = \"p\"\nat = 2\n\n[[tank]]\nname = \"out\"\nat = 3\n\n[[stage]]\ntank = \"load\"\nlift = 1\n\n[[stage]]\ntank = \"r\"\nmin = 1\nlift = 1\nlower = 1\n\n[[stage]]\ntank = \"p\"\nmin = 1\nlift = 1\nlower = 1\n\n[[stage]]\ntank = \"r\"\nmin = 1\nlift = 1\nlower = 1\n\n[[stage]]\ntank = \"out\"\nlower = 1\n";
 
 /// `ready`, or what is said of the bytes.
 fn outcome(alloc: Global, bytes: &[u8]) -> Result<Vec<u8>, AllocError> {
@@ -417,5 +430,62 @@ fn reads_the_largest_line(rt: HostRuntime) -> Result<(), Fail> {
         outcome(alloc, text.as_bytes())?.as_slice(),
         b"ready".as_slice()
     );
+    Ok(())
+}
+
+/// The text that is written for a line, empty where there is no line.
+fn written(alloc: Global, line: Option<Line>) -> Result<Vec<u8>, AllocError> {
+    match line {
+        Some(line) => write_line(alloc, &line),
+        None => Ok(Vec::new(alloc)),
+    }
+}
+
+#[test]
+fn writes_one_text(rt: HostRuntime) -> Result<(), Fail> {
+    let alloc = rt.alloc();
+    assert_eq!(rt;
+        written(alloc, two_stations(alloc))?.as_slice(),
+        TWO_STATIONS.as_bytes()
+    );
+    assert_eq!(rt;
+        written(alloc, rinse_twice(alloc))?.as_slice(),
+        RINSE_TWICE.as_bytes()
+    );
+    assert_eq!(rt;
+        written(alloc, far_tank(alloc))?.as_slice(),
+        FAR_TANK.as_bytes()
+    );
+    Ok(())
+}
+
+/// Whether the line that is read from a line's text has the line's parts.
+fn is_kept(alloc: Global, line: Option<Line>) -> Result<bool, AllocError> {
+    let Some(line) = line else {
+        return Ok(false);
+    };
+    let text = write_line(alloc, &line)?;
+    match read_line(alloc, text.as_slice())? {
+        LineRead::Ready(back) => {
+            let before = format!(in alloc; "{line:?}")?;
+            let after = format!(in alloc; "{back:?}")?;
+            Ok(before.as_str() == after.as_str())
+        }
+        LineRead::Refused(_) => Ok(false),
+    }
+}
+
+#[test]
+fn reads_what_it_writes(rt: HostRuntime) -> Result<(), Fail> {
+    let alloc = rt.alloc();
+    assert!(rt; is_kept(alloc, two_stations(alloc))?);
+    assert!(rt; is_kept(alloc, one_bath(alloc))?);
+    assert!(rt; is_kept(alloc, two_hoists(alloc))?);
+    assert!(rt; is_kept(alloc, rinse_twice(alloc))?);
+    assert!(rt; is_kept(alloc, one_station(alloc))?);
+    assert!(rt; is_kept(alloc, thirteen_stages(alloc))?);
+    assert!(rt; is_kept(alloc, far_tank(alloc))?);
+    assert!(rt; is_kept(alloc, two_baths(alloc))?);
+    assert!(rt; is_kept(alloc, slow_choice(alloc))?);
     Ok(())
 }
