@@ -9,7 +9,7 @@ ghost use Rattle.cycle_walk.specs.Climb.{climbed, IsLeastFeasible, AreRefuted, A
 
 use crate::Walk;
 use crate::closed_walks::walk_within;
-use longest_path::{Room, System};
+use longest_path::{Room, Step, System};
 use std::alloc::{AllocError, Global};
 
 /// What `climb` answers.
@@ -47,14 +47,14 @@ fn climb_within(
     alloc: Global,
     s: &System,
     cap: u32,
-    weights: &mut [i64],
+    steps: &mut [Step],
     rows: &mut [i64],
     seen: &mut [u32],
     back: &mut [u32],
 ) -> Result<Climbed, AllocError>
     requires valid { IsSystem s.now }
     requires cap { (2 ≤ cap) × (cap ≤ 20001) }
-    requires weights { length weights.old ≡ length s.now.arcs }
+    requires steps { length steps.old ≡ length s.now.arcs }
     requires table { IsTable s.now rows.old }
     requires seen { length seen.old ≡ s.now.nodes }
     requires back { length back.old ≡ s.now.nodes }
@@ -66,7 +66,7 @@ fn climb_within(
     let mut period = 1;
     let mut low = None;
     while period < cap {
-        let found = walk_within(alloc, s, period, weights, rows, seen, back)?;
+        let found = walk_within(alloc, s, period, steps, rows, seen, back)?;
         let Some(walk) = found else {
             return Ok(Climbed::Floor { period, low });
         };
@@ -99,7 +99,7 @@ pub fn climb_in(alloc: Global, room: &mut Room, s: &System, cap: u32) -> Result<
         alloc,
         s,
         cap,
-        &mut room.weights[..s.arcs().len()],
+        &mut room.steps[..s.arcs().len()],
         &mut room.rows[..(n + 1) * n],
         &mut room.seen[..n],
         &mut room.back[..n],

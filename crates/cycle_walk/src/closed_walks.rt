@@ -9,7 +9,7 @@ ghost use Rattle.cycle_walk.specs.Closed.{Rises, closed_walk_of, IsFeasible, IsC
 use crate::Walk;
 use crate::going_back::{first_grown, go_back};
 use crate::walks::walk_along;
-use longest_path::{Room, System, fill};
+use longest_path::{Room, Step, System, fill};
 use std::alloc::{AllocError, Global};
 
 fn begin(row: &mut [i64])
@@ -20,9 +20,9 @@ fn begin(row: &mut [i64])
 }
 
 // Fills the table with the walk values at a period, up to the first round that changes nothing: false there.
-fn rises(s: &System, period: u32, weights: &mut [i64], rows: &mut [i64]) -> bool
+fn rises(s: &System, period: u32, steps: &mut [Step], rows: &mut [i64]) -> bool
     requires period { period ≤ 20001 }
-    requires weights { length weights.old ≡ length s.now.arcs }
+    requires steps { length steps.old ≡ length s.now.arcs }
     requires table { IsTable s.now rows.old }
     ensures table { IsTable s.now rows.new }
     ensures rows { IsTrue result → AreValues s.now period s.now.nodes rows.new }
@@ -31,7 +31,7 @@ fn rises(s: &System, period: u32, weights: &mut [i64], rows: &mut [i64]) -> bool
 {
     let n = s.nodes() as usize;
     begin(&mut rows[..n]);
-    fill(s, period, weights, rows) == n
+    fill(s, period, steps, rows) == n
 }
 
 // The canonical closed walk at a period, in the room that the caller lends.
@@ -39,13 +39,13 @@ pub(crate) fn walk_within(
     alloc: Global,
     s: &System,
     period: u32,
-    weights: &mut [i64],
+    steps: &mut [Step],
     rows: &mut [i64],
     seen: &mut [u32],
     back: &mut [u32],
 ) -> Result<Option<Walk>, AllocError>
     requires period { period ≤ 20001 }
-    requires weights { length weights.old ≡ length s.now.arcs }
+    requires steps { length steps.old ≡ length s.now.arcs }
     requires table { IsTable s.now rows.old }
     requires seen { length seen.old ≡ s.now.nodes }
     requires back { length back.old ≡ s.now.nodes }
@@ -53,7 +53,7 @@ pub(crate) fn walk_within(
     ensures walk { IfOk result (λ walk. walk ≡ closed_walk_of s.now period) }
     ensures small { IfOk result (λ walk. IfSome walk (λ w. unsigned_abs w.w ≤ 1240000000)) }
 {
-    if !rises(s, period, weights, rows) {
+    if !rises(s, period, steps, rows) {
         return Ok(None);
     }
     let start = first_grown(rows, s.nodes() as usize);
@@ -84,7 +84,7 @@ pub fn closed_walk_in(
         alloc,
         s,
         period,
-        &mut room.weights[..s.arcs().len()],
+        &mut room.steps[..s.arcs().len()],
         &mut room.rows[..(n + 1) * n],
         &mut room.seen[..n],
         &mut room.back[..n],

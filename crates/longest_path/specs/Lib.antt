@@ -1,5 +1,6 @@
 pub mod System
 pub mod Rounds
+pub mod Steps
 pub mod Answer
 pub mod Laws
 pub mod Room

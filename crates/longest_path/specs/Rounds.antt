@@ -36,14 +36,6 @@ number xs i = get_or xs i (pos 0)
 abbrev pub cell : ℕ → List ℤ → ℕ → ℕ → ℤ
 cell n rows r i = get_or rows (r * n + i) (pos 0)
 
-abbrev pub AreSmallWeights : List ℤ → Type 0
-AreSmallWeights ws = (k : ℕ) → unsigned_abs (number ws k) ≤ 30000000000000
-
-pub record AreWeights (s : SystemData) (period : ℕ) (ws : List ℤ) : Type 0 where
-  pub count : length ws ≡ length s.arcs
-  pub is : (k : ℕ) → k < length s.arcs → number ws k ≡ weights_at s period k
-  pub small : AreSmallWeights ws
-
 -- a table with the rows from 0 to the number of nodes
 abbrev pub IsTable : SystemData → List ℤ → Type 0
 IsTable s rows = length rows ≡ (s.nodes + 1) * s.nodes

@@ -6,7 +6,8 @@ ghost use Rattle.longest_path.specs.Rounds.{number, IsTable};
 ghost use Rattle.longest_path.specs.Answer.{IsLeastAnswer, KeepsWithin, HasTicksWithin};
 ghost use Rattle.longest_path.specs.Start.{far};
 
-use crate::{Room, System, fill};
+use crate::settling::settle;
+use crate::{Room, Step, System};
 use std::alloc::{AllocError, Global};
 
 // Stands for a node that no walk has reached yet: below all that walks from node 0 bring, by more than walks bring back.
@@ -34,30 +35,30 @@ fn least_within(
     alloc: Global,
     s: &System,
     period: u32,
-    weights: &mut [i64],
+    steps: &mut [Step],
     rows: &mut [i64],
 ) -> Result<LeastTicks, AllocError>
     requires period { (1 ≤ period) × (period ≤ 20001) }
     requires reached { (i : ℕ) → i < s.now.nodes → IsReached s.now i }
-    requires weights { length weights.old ≡ length s.now.arcs }
+    requires steps { length steps.old ≡ length s.now.arcs }
     requires table { IsTable s.now rows.old }
     ensures least { IfOk result (λ answer. IsLeastAnswer s.now period answer) }
     ensures within { IfOk result (λ answer. KeepsWithin s.now period answer) }
     ensures small { IfOk result (λ answer. HasTicksWithin 2500000000000000 answer) }
 {
     let n = s.nodes() as usize;
-    begin(&mut rows[..n]);
-    let rounds = fill(s, period, weights, rows);
-    if rounds == n {
+    let (row, rest) = rows.split_at_mut(n);
+    begin(row);
+    if !settle(s, period, steps, row, &mut rest[..n]) {
         return Ok(LeastTicks::Positive);
     }
-    let ticks = Vec::from_slice(alloc, &rows[rounds * n..(rounds + 1) * n])?;
+    let ticks = Vec::from_slice(alloc, row)?;
     Ok(LeastTicks::Feasible(ticks))
 }
 
 /// The pointwise least ticks that solve a system at a period, with 0 at node 0, where node 0 reaches every node; Positive where no ticks solve it.
 ///
-/// It relaxes round by round and stops at the first round that changes nothing: at most as many rounds as nodes, each of one step a constraint. The room is lent and serves again; beside it only the answer takes memory.
+/// It raises the ticks in place, pass by pass, and stops at the first pass that changes nothing: at most as many passes as nodes, each of one step a constraint. The room is lent and serves again; beside it only the answer takes memory.
 pub fn least_in(
     alloc: Global,
     room: &mut Room,
@@ -76,7 +77,7 @@ pub fn least_in(
         alloc,
         s,
         period,
-        &mut room.weights[..s.arcs().len()],
+        &mut room.steps[..s.arcs().len()],
         &mut room.rows[..(n + 1) * n],
     )?;
     Ok(answer)

@@ -4,10 +4,11 @@
 pub mod laws;
 mod least_ticks;
 mod rounds;
+mod settling;
 mod systems;
 #[cfg(test)]
 mod tests;
 
 pub use least_ticks::{LeastTicks, least, least_in};
-pub use rounds::{Room, fill};
+pub use rounds::{Room, Step, fill};
 pub use systems::{Arc, System};

@@ -3,6 +3,7 @@ use Rattle.std.proofs.lemmas.Int.{ints}
 use Rattle.longest_path.specs.Rounds.{weights_at, cell}
 use Rattle.longest_path.proofs.ValueLemmas.{from_at, from_small}
 use Rattle.longest_path.proofs.RowLemmas.{rows_more}
+use Rattle.longest_path.proofs.StepLemmas.{steps_fit}
 use Rattle.longest_path.proofs.rounds.fill.Goals as goal
 
 pub next_row-requires-clause-small : goal.next_row-requires-clause-small
@@ -17,7 +18,7 @@ returns-then-not-next_row-clause-still c _ i p =
     let wt = weights_at s c.args.period in
     let first = cell s.nodes c.args.rows.now 0 in
     let m = c.loop-m.m in
-    let rows = rows_more s c.args.period first m c.weigh.new.weights c.loop-m.rows c.next_row.new.rows c.nodes-n.ensures.valid c.weigh.ensures c.loop-m.invariant.0 c.next_row.ensures.table c.next_row.ensures.kept c.next_row.ensures.made in
+    let rows = rows_more s c.args.period first m c.weigh-count.result c.weigh-count.new.steps c.loop-m.rows c.next_row.new.rows c.nodes-n.ensures.valid c.weigh-count.ensures c.loop-m.invariant.0 c.next_row.ensures.table c.next_row.ensures.kept c.next_row.ensures.made in
     from_at s wt first (suc m) (m + 1) i (omega arith) ∙ sym (rows.is (m + 1) i (omega arith) p) ∙ c.if-not-next_row.ensures.still refl i p ∙ c.loop-m.invariant.0.is m i (omega arith) p
 
 pub loop-m-preserved : goal.loop-m-preserved
@@ -26,10 +27,15 @@ loop-m-preserved c =
     let wt = weights_at s c.args.period in
     let first = cell s.nodes c.args.rows.now 0 in
     let m = c.loop-m.m in
-    let rows = rows_more s c.args.period first m c.weigh.new.weights c.loop-m.rows c.next_row.new.rows c.nodes-n.ensures.valid c.weigh.ensures c.loop-m.invariant.0 c.next_row.ensures.table c.next_row.ensures.kept c.next_row.ensures.made in (
+    let rows = rows_more s c.args.period first m c.weigh-count.result c.weigh-count.new.steps c.loop-m.rows c.next_row.new.rows c.nodes-n.ensures.valid c.weigh-count.ensures c.loop-m.invariant.0 c.next_row.ensures.table c.next_row.ensures.kept c.next_row.ensures.made in (
       rows,
-      c.weigh.ensures,
+      c.weigh-count.ensures,
       λ _.
           let (i, p, lt) = c.if-not-next_row.ensures.grown refl in
           (i, p, omega (arith, ints, lt, from_at s wt first (m + 1 - 1) m i (omega arith), c.loop-m.invariant.0.is m i (omega arith) p, rows.is (m + 1) i (omega arith) p)),
     )
+
+pub next_row-requires-clause-steps : goal.next_row-requires-clause-steps
+next_row-requires-clause-steps c =
+    let are = c.weigh-count.ensures in
+    (omega (arith, are.few, are.room), steps_fit c.args.s.now c.args.period c.weigh-count.result c.weigh-count.new.steps c.nodes-n.ensures.valid c.requires.period are)

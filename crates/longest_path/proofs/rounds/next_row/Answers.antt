@@ -1,29 +1,30 @@
-use Rattle.std.proofs.Common.{◌∙◌, ap, ◌+ℤ◌, ◌-◌, ◌*◌, length, take, drop, arith}
+use Rattle.std.proofs.Common.{◌∙◌, sym, ◌-◌, ◌*◌, ◌<◌, take, drop, length, arith}
 use Rattle.std.proofs.lemmas.Int.{ints}
-use Rattle.longest_path.specs.System.{arc}
 use Rattle.longest_path.specs.Rounds.{number, cell}
-use Rattle.longest_path.proofs.ValueLemmas.{brought_same}
 use Rattle.longest_path.proofs.RowLemmas.{next_rows}
+use Rattle.longest_path.proofs.StepLemmas.{round_same}
 use Rattle.longest_path.proofs.rounds.next_row.Goals as goal
 
 pub returns-clause-made : goal.returns-clause-made
 returns-clause-made c i p =
     let s = c.args.s.now in
     let n = c.nodes-n.result in
-    let m = c.args.m in
     let done = c.split_at_mut-done.result.0.now in
-    let wt = number c.args.weights.now in
-    let at = next_rows s n m c.args.rows.now done c.split_at_mut-done.result.1.now c.relax.new.new c.nodes-n.ensures.value c.requires.m c.requires.table c.split_at_mut-done.ensures.value c.split_at_mut-done.ensures.front_len c.split_at_mut-done.ensures.back_len c.relax.auto.new in
-    (at i p).0 ∙ c.relax.ensures.row i p
-    ∙ brought_same s wt (number (take (length done - m * n) (drop (m * n) done))) wt (cell s.nodes c.args.rows.now m) i (length s.arcs) (at i p).1 (λ k lt. ap (λ z. z +ℤ wt k) (at (arc s k).from (c.nodes-n.ensures.valid.ends k lt).0).1)
+    let at = next_rows s n c.args.m c.args.rows.now done c.split_at_mut-done.result.1.now c.relax.new.new c.nodes-n.ensures.value c.requires.m c.requires.table c.split_at_mut-done.ensures.value c.split_at_mut-done.ensures.front_len c.split_at_mut-done.ensures.back_len c.relax.auto.new in
+    round_same c.args.steps.now s.nodes c.args.count (number (take (length done - c.args.m * n) (drop (c.args.m * n) done))) (cell s.nodes c.args.rows.now c.args.m) i (number c.relax.new.new i) _ c.requires.steps.1 (λ j j_in. (at.2 j j_in).1) p (at.2 i p).0 (c.relax.ensures.row i (omega (arith, p, at.0)))
 
 pub returns-clause-still : goal.returns-clause-still
-returns-clause-still c no_growth i p =
-    let at = next_rows c.args.s.now c.nodes-n.result c.args.m c.args.rows.now c.split_at_mut-done.result.0.now c.split_at_mut-done.result.1.now c.relax.new.new c.nodes-n.ensures.value c.requires.m c.requires.table c.split_at_mut-done.ensures.value c.split_at_mut-done.ensures.front_len c.split_at_mut-done.ensures.back_len c.relax.auto.new i p in
-    at.0 ∙ c.relax.ensures.still no_growth i p ∙ at.1
+returns-clause-still c same i p =
+    let at = next_rows c.args.s.now c.nodes-n.result c.args.m c.args.rows.now c.split_at_mut-done.result.0.now c.split_at_mut-done.result.1.now c.relax.new.new c.nodes-n.ensures.value c.requires.m c.requires.table c.split_at_mut-done.ensures.value c.split_at_mut-done.ensures.front_len c.split_at_mut-done.ensures.back_len c.relax.auto.new in
+    let (new, old, read) = at.2 i p in
+    new ∙ sym read ∙ c.has_changed.ensures.still same i (omega (arith, p, at.0)) ∙ old
 
 pub returns-clause-grown : goal.returns-clause-grown
-returns-clause-grown c yes_growth =
-    let (i, p, lt) = c.relax.ensures.grown yes_growth in
-    let at = next_rows c.args.s.now c.nodes-n.result c.args.m c.args.rows.now c.split_at_mut-done.result.0.now c.split_at_mut-done.result.1.now c.relax.new.new c.nodes-n.ensures.value c.requires.m c.requires.table c.split_at_mut-done.ensures.value c.split_at_mut-done.ensures.front_len c.split_at_mut-done.ensures.back_len c.relax.auto.new i p in
-    (i, p, omega (arith, ints, lt, at.0, at.1))
+returns-clause-grown c differs =
+    let s = c.args.s.now in
+    let at = next_rows s c.nodes-n.result c.args.m c.args.rows.now c.split_at_mut-done.result.0.now c.split_at_mut-done.result.1.now c.relax.new.new c.nodes-n.ensures.value c.requires.m c.requires.table c.split_at_mut-done.ensures.value c.split_at_mut-done.ensures.front_len c.split_at_mut-done.ensures.back_len c.relax.auto.new in
+    let (i, lt, other) = c.has_changed.ensures.changed differs in
+    let p : i < s.nodes = omega (arith, lt, at.0) in
+    let (new, old, read) = at.2 i p in
+    let row = c.relax.ensures.row i lt in
+    (i, p, omega (arith, ints, new, old, read, other, row.keeps))

@@ -1,0 +1,80 @@
+//! Relaxation in place, which settles in a few passes where there are solutions.
+
+ghost use Rattle.std.specs.Prelude.{◌≡◌, ℕ, ◌+◌, ◌≤◌, ◌<◌, ◌≤ℤ◌, ◌<ℤ◌, length, pos, false, unsigned_abs, IsTrue};
+ghost use Rattle.longest_path.specs.System.{HasNoSolution};
+ghost use Rattle.longest_path.specs.Rounds.{number};
+ghost use Rattle.longest_path.specs.Steps.{FitNodes, IsRaised, IsSettled};
+
+use crate::rounds::{has_changed, weigh};
+use crate::{Step, System};
+
+// More than walks of as many constraints as there can be nodes bring any node.
+const MOST: i64 = 20_000_000_000_000_000;
+
+// Raises a row in place: each end, one after another, to what its step brings it.
+fn raise(steps: &[Step], count: usize, row: &mut [i64])
+    requires steps { (count ≤ length steps.now) × FitNodes (length row.old) count steps.now }
+    requires count { count ≤ 30000 }
+    requires small { (i : ℕ) → i < length row.old → unsigned_abs (number row.old i) ≤ 20000000000000000 }
+    ensures len { length row.new ≡ length row.old }
+    ensures row { IsRaised steps.now count count (length row.old) (number row.old) (number row.new) }
+{
+    for k in 0..count {
+        let step = steps[k];
+        let to = step.to as usize;
+        let offer = row[step.from as usize] + step.weight;
+        row[to] = row[to].max(offer);
+    }
+}
+
+#[inline]
+fn is_above(value: i64, most: i64) -> bool
+    ensures yes { IsTrue result → (most <ℤ value) }
+    ensures no { result ≡ false → (value ≤ℤ most) }
+{
+    value > most
+}
+
+// Whether a number is more than walks can bring.
+fn passes_most(row: &[i64]) -> bool
+    ensures yes { IsTrue result → (i : ℕ) × (i < length row.now) × (pos 20000000000000000 <ℤ number row.now i) }
+    ensures no { result ≡ false → (i : ℕ) → i < length row.now → number row.now i ≤ℤ pos 20000000000000000 }
+{
+    for i in 0..row.len() {
+        if is_above(row[i], MOST) {
+            return true;
+        }
+    }
+    false
+}
+
+// Raises a row pass by pass until one changes nothing: true. False where no ticks solve the system, which as many passes as nodes show, or a number that no walks bring.
+pub(crate) fn settle(
+    s: &System,
+    period: u32,
+    steps: &mut [Step],
+    row: &mut [i64],
+    before: &mut [i64],
+) -> bool
+    requires period { period ≤ 20001 }
+    requires steps { length steps.old ≡ length s.now.arcs }
+    requires row { length row.old ≡ s.now.nodes }
+    requires before { length before.old ≡ s.now.nodes }
+    requires small { (i : ℕ) → i < s.now.nodes → unsigned_abs (number row.old i) ≤ 10000000000000000 }
+    ensures len { length row.new ≡ length row.old }
+    ensures settled { IsTrue result → IsSettled s.now period (number row.old) row.new }
+    ensures none { result ≡ false → HasNoSolution s.now period }
+{
+    let count = weigh(s, period, steps);
+    for _m in 0..s.nodes() {
+        before.copy_from_slice(row);
+        raise(steps, count, row);
+        if !has_changed(before, row) {
+            return true;
+        }
+        if passes_most(row) {
+            return false;
+        }
+    }
+    false
+}
