@@ -188,7 +188,7 @@ no_choice_by (TankOrder a b q) c k child h = refl
 no_choice_by (HoistOrder a b q) c k child h = refl
 no_choice_by (Choose v) c k child h = absurd h
 
-or_none : (o : Option ℕ) → option_or o None ≡ o
+pub or_none : (o : Option ℕ) → option_or o None ≡ o
 or_none None = refl
 or_none (Some x) = refl
 
@@ -294,7 +294,7 @@ one_move c k c' k' (Visit a b) h g = (sym h.0 ∙ g.0, omega (arith, h.1, g.1))
 one_move c k c' k' (Repeat a b) h g = (sym h.0 ∙ g.0, sym h.1 ∙ g.1)
 one_move c k c' k' (Decided i) h g = absurd h
 
-no_choice_at : (v : VisitId) (c k child : ℕ) → ((v.carrier ≡ c) × (v.stage ≡ k) → ⊥) → choice_by c k (Choose v) child ≡ None
+pub no_choice_at : (v : VisitId) (c k child : ℕ) → ((v.carrier ≡ c) × (v.stage ≡ k) → ⊥) → choice_by c k (Choose v) child ≡ None
 no_choice_at v c k child other = ⊎_elim
     (λ e. ⊎_elim (λ f. absurd (other (e, f))) (λ ne. second e (ne_eqb v.stage k ne)) (cases_eq v.stage k))
     (λ ne. first (ne_eqb v.carrier c ne)) (cases_eq v.carrier c)

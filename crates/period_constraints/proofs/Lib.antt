@@ -11,6 +11,12 @@ pub mod BaseLemmas
 pub mod DecideLemmas
 pub mod SpreadLemmas
 pub mod ShiftLemmas
+pub mod PairLemmas
+pub mod AskLemmas
+pub mod MarkLemmas
+pub mod StayLemmas
+pub mod RoutedLemmas
+pub mod LookupLemmas
 pub mod FailLemmas
 pub mod TestLemmas
 pub mod WorkedRows

@@ -1,6 +1,6 @@
 -- How far apart the ticks of two moves are that meet the constraints of a path at a period, so that a q that they leave open is small.
 use Rattle.std.proofs.Common.{⊎_elim, ◌≡◌, ℕ, zero, suc, ◌+◌, ◌-◌, ◌*◌, ◌<◌, ◌≤◌, List, [], ◌∷◌, ◌++◌, length, map, max, ap, subst, arith, pos, ℤ, Bool, cond, eq-eqb}
-use Rattle.std.specs.Prelude.{flat_map, fold, ◌+ℤ◌, ◌-ℤ◌, ◌*ℤ◌, ◌≤ℤ◌, negsuc, unsigned_abs}
+use Rattle.std.specs.Prelude.{flat_map, fold, ◌+ℤ◌, ◌-ℤ◌, ◌≤ℤ◌, negsuc}
 use Rattle.std.proofs.lemmas.Bool.{cases_lt, ne_eqb}
 use Rattle.std.proofs.lemmas.List.{get_or_past}
 use Rattle.std.proofs.lemmas.Int.{ints}
@@ -150,14 +150,3 @@ spread l path s period c k c' k' line keeps m m' =
     let g = first_spread l path s period c' keeps m'.0 in
     let most = mul-le k (period + 2000) 31 (period + 2000) (omega (arith, m.1, line.limits.stages.1)) (omega arith) in
     omega (arith, ints, a.1, b.0, f.1, g.0, most)
-
-times_size : (q : ℤ) (n : ℕ) → unsigned_abs (q *ℤ pos n) ≡ unsigned_abs q * n
-times_size (pos a) n = omega (arith, ints)
-times_size (negsuc a) n = omega (arith, ints)
-
--- a q whose periods lie in such a window is small
-pub small_shift : (q : ℤ) (period : ℕ) → 1 ≤ period → unsigned_abs (q *ℤ pos period) ≤ 32 * period + 200000 → unsigned_abs q ≤ 1000000000
-small_shift q period some near =
-    ⊎_elim
-    (λ large. let more = mul-le 1000000001 period (unsigned_abs q) period (omega (arith, large)) (omega arith) in absurd (omega (arith, more, near, times_size q period, some)))
-    (λ le. le) (cases_lt 1000000000 (unsigned_abs q))

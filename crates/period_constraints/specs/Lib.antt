@@ -6,6 +6,12 @@ pub mod Ticks
 pub mod Constraints
 pub mod Questions
 pub mod Order
+pub mod Pairs
+pub mod Marks
+pub mod Stays
+pub mod Starts
+pub mod Routed
+pub mod Lookups
 pub mod Meets
 pub mod Proves
 pub mod Laws

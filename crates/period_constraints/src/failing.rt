@@ -1,6 +1,7 @@
 // Whether ticks leave a question open.
 ghost use Rattle.std.specs.Prelude.{◌≡◌, ◌≤◌, ◌<ℤ◌, ◌-ℤ◌, ◌↔◌, neg_ℤ, IsTrue, IsSomeAnd, unsigned_abs};
 ghost use Rattle.hoist_base.specs.LineData.{IsMove, IsVisit, move_number};
+ghost use Rattle.hoist_base.specs.Valid.{IsLine};
 ghost use Rattle.collision_pairs.specs.Clash.{IsTight};
 ghost use Rattle.period_constraints.specs.Tanks as tanks;
 ghost use Rattle.period_constraints.specs.Hoists as hoists;
@@ -23,12 +24,13 @@ pub(crate) struct Hold {
 }
 
 // The tick of a moment.
-fn tick_of(line: &Line, ticks: &[i64], moment: Moment) -> i64
+pub(crate) fn tick_of(line: &Line, ticks: &[i64], moment: Moment) -> i64
     requires there { IsMove line.now moment.carrier moment.step }
     requires ticks { AreTicks line.now ticks.now }
     requires fixed { unsigned_abs moment.fixed ≤ 22000 }
     ensures value { result ≡ holds.tick_of line.now (tick_at ticks.now) moment }
     ensures small { unsigned_abs result ≤ 10000000022000 }
+    ensures valid { IsLine line.now }
 {
     ticks[number_of(line, moment.carrier, moment.step) as usize] + moment.fixed
 }

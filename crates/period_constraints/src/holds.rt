@@ -31,7 +31,7 @@ pub(crate) fn number_of(line: &Line, carrier: u32, step: u32) -> u32
 }
 
 // How long lowering into the stage behind a step takes.
-fn lower_behind(line: &Line, step: u32) -> u32
+pub(crate) fn lower_behind(line: &Line, step: u32) -> u32
     requires { IsStep line.now step }
     ensures value { result ≡ (stage line.now (step + 1)).lower }
     ensures small { result ≤ 500 }
@@ -40,7 +40,7 @@ fn lower_behind(line: &Line, step: u32) -> u32
 }
 
 // How long after the start of a move the lowering begins.
-fn lowering(ticks: u32, lower: u32) -> i64
+pub(crate) fn lowering(ticks: u32, lower: u32) -> i64
     requires { (ticks ≤ 2000) × (lower ≤ 500) }
     ensures value { result ≡ pos ticks -ℤ pos lower }
     ensures small { unsigned_abs result ≤ 20000 }

@@ -41,7 +41,7 @@ fn is_small(q: i64) -> bool
 }
 
 // Whether the stage of a visit has a choice, and the path makes none.
-fn is_open_visit(line: &Line, path: &[Decision], v: VisitId) -> bool
+pub(crate) fn is_open_visit(line: &Line, path: &[Decision], v: VisitId) -> bool
     ensures { IsTrue result ↔ IsOpenVisit line.now path.now v }
 {
     if !is_visit(line, v) {
@@ -54,7 +54,7 @@ fn is_open_visit(line: &Line, path: &[Decision], v: VisitId) -> bool
 }
 
 // Whether a move has one motion below the path, no hoist on it, and not one hoist alone that reaches it.
-fn is_open_move(line: &Line, path: &[Decision], m: MoveId) -> bool
+pub(crate) fn is_open_move(line: &Line, path: &[Decision], m: MoveId) -> bool
     requires { FitsPath line.now path.now }
     ensures { IsTrue result ↔ IsOpenMove line.now path.now m }
 {
@@ -103,7 +103,7 @@ fn has_begin(line: &Line, path: &[Decision], v: VisitId) -> bool
 }
 
 // Whether two visits in their order have the same only tank, and the begins of their holds are settled.
-fn share_tank(line: &Line, path: &[Decision], a: VisitId, b: VisitId) -> bool
+pub(crate) fn share_tank(line: &Line, path: &[Decision], a: VisitId, b: VisitId) -> bool
     requires { FitsPath line.now path.now }
     ensures { IsTrue result ↔ ShareTank line.now path.now a b }
 {

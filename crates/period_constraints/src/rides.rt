@@ -15,7 +15,7 @@ use hoist_base::{Line, MoveId, VisitId};
 use move_list::{Motion, reaches};
 
 /// A motion and the hoist that follows it.
-#[derive(Clone, Copy)]
+#[derive(Clone, Copy, PartialEq, Eq)]
 pub(crate) struct Ride {
     pub(crate) motion: Motion,
     pub(crate) hoist: u32,
@@ -107,6 +107,21 @@ fn hoist_of(line: &Line, path: &[Decision], m: MoveId, a: Motion) -> Option<u32>
         return reaching(line, a, 0);
     }
     match assigned_of(path, m) {
+        None => None,
+        Some(number) => reaching(line, a, number),
+    }
+}
+
+/// The hoist of a move with this motion, where it is known which of those that reach it are assigned.
+pub(crate) fn hoist_by(line: &Line, a: Motion, assigned: Option<u32>) -> Option<u32>
+    requires { IsMotion a }
+    ensures value { result ≡ hoists.hoist_by (hoists.hoists_reaching line.now a) assigned }
+    ensures hoist { IfSome result (λ h. h < line.now.hoists) }
+{
+    if reaching_count(line, a) < 2 {
+        return reaching(line, a, 0);
+    }
+    match assigned {
         None => None,
         Some(number) => reaching(line, a, number),
     }

@@ -1,7 +1,8 @@
 // The constraints of a path as a system, and how a decision extends it.
 ghost use Rattle.std.specs.Prelude.{◌≡◌, ◌+◌, ◌≤◌, ◌<◌, ◌↔◌, [], length, take, true, Contains, IsSome, IfSome, IfOk, OnOk, OnErr};
-ghost use Rattle.hoist_base.specs.LineData.{IsVisit, stage};
+ghost use Rattle.hoist_base.specs.LineData.{IsVisit, stage, move_count};
 ghost use Rattle.hoist_base.specs.Valid.{IsLine};
+ghost use Rattle.longest_path.specs.System.{IsArc};
 ghost use Rattle.period_constraints.specs.Questions.{FitsPath};
 ghost use Rattle.period_constraints.specs.Constraints.{IsConstraint, constraint_list};
 ghost use Rattle.period_constraints.specs.Constraints as constraints;
@@ -137,6 +138,7 @@ pub fn constraint_of(line: &Line, path: &[Decision], name: Constraint) -> Option
     ensures named { IsSome result ↔ IsConstraint line.now path.now name }
     ensures listed { IsSome result ↔ Contains (constraint_list line.now path.now) name }
     ensures value { IfSome result (λ arc. arc ≡ constraints.arc_of line.now path.now name) }
+    ensures arc { IfSome result (IsArc (move_count line.now)) }
 {
     if !is_constraint(line, path, name) {
         return None;

@@ -1,15 +1,18 @@
 // The constraints of the worked lines, and their first questions.
-ghost use Rattle.std.specs.Prelude.{◌<◌, ◌∷◌, [], IsTrue};
+ghost use Rattle.std.specs.Prelude.{◌≡◌, ◌≤◌, ◌<◌, ◌∷◌, [], length, ◌↔◌, ◌+ℤ◌, ◌≤ℤ◌, unsigned_abs, IsTrue};
+ghost use Rattle.longest_path.specs.System.{Solves};
+ghost use Rattle.period_constraints.specs.Ticks.{AreTicks, tick_at};
 ghost use Rattle.period_constraints.specs.Questions.{FitsPath};
 ghost use Rattle.period_constraints.specs.Constraints.{IsOrder};
 
-use crate::{base_of, constraint_of, decide, fails, fits, system_of};
+use crate::pairs::move_count;
+use crate::{Lookup, base_of, constraint_of, decide, fails, first_question, fits, system_of};
 use choice_tree::{Constraint, Decision, Question};
 use hoist_base::{Line, MoveId, VisitId};
-use longest_path::Arc;
+use longest_path::{Arc, System};
 use std::alloc::Global;
 use std::test::Fail;
-use worked_lines::{far_tank, one_bath, rinse_twice, two_hoists};
+use worked_lines::{Numbers, Row, far_tank, line_of_rows, one_bath, rinse_twice, two_hoists};
 
 // The numbers of a constraint.
 fn numbers(a: Arc) -> (u32, u32, i64, i64) {
@@ -173,6 +176,119 @@ fn held_twice(rt: HostRuntime) -> Result<(), Fail> {
         if fitting {
             assert_eq!(rt; fails(&line, &[], question, &ticks, 6), want, "{q}");
         }
+    }
+    Ok(())
+}
+
+// Whether these may be ticks of a line's moves.
+fn are_ticks(line: &Line, ticks: &[i64]) -> bool
+    ensures { IsTrue result → AreTicks line.now ticks.now }
+{
+    if ticks.len() != move_count(line) as usize {
+        return false;
+    }
+    for tick in ticks {
+        if tick.unsigned_abs() > 10_000_000_000_000 {
+            return false;
+        }
+    }
+    true
+}
+
+// Whether the second tick is late enough after the first.
+fn keeps(from: i64, weight: i64, to: i64) -> bool
+    requires from { unsigned_abs from ≤ 10000000000000 }
+    requires weight { unsigned_abs weight ≤ 30000000000000 }
+    ensures { IsTrue result ↔ ((from +ℤ weight) ≤ℤ to) }
+{
+    from + weight <= to
+}
+
+// Whether ticks solve a system at a period.
+fn solves(line: &Line, s: &System, period: u32, ticks: &[i64]) -> bool
+    requires period { period ≤ 20001 }
+    requires ticks { AreTicks line.now ticks.now }
+    requires nodes { length ticks.now ≡ s.now.nodes }
+    ensures { IsTrue result → Solves s.now period (tick_at ticks.now) }
+{
+    for arc in s.arcs() {
+        if !keeps(
+            ticks[arc.from as usize],
+            arc.weight(period),
+            ticks[arc.to as usize],
+        ) {
+            return false;
+        }
+    }
+    true
+}
+
+// What is asked first below no decision, by the plain call and by the look-up; None where these are no such ticks.
+fn asked(
+    alloc: Global,
+    line: &Line,
+    ticks: &[i64],
+    period: u32,
+) -> Result<Option<(Option<Question>, Option<Question>)>, Fail> {
+    let s = base_of(alloc, line)?;
+    let lookup = Lookup::new(alloc, line)?;
+    if period == 0 || period > 20_001 || !are_ticks(line, ticks) {
+        return Ok(None);
+    }
+    if !solves(line, &s, period, ticks) {
+        return Ok(None);
+    }
+    let plain = first_question(line, &[], ticks, period);
+    Ok(Some((plain, lookup.first_question(line, &[], ticks, period))))
+}
+
+// Two hoists that both reach every tank.
+fn shared_track(alloc: Global) -> Option<Line> {
+    let numbers = Numbers {
+        track: 10,
+        gap: 2,
+        hoists: 2,
+        degree: 1,
+        max_period: 100,
+        load: 0,
+        unload: 0,
+    };
+    let row = |tanks, min, lift, lower| Row {
+        tanks,
+        min,
+        max: None,
+        lift,
+        lower,
+    };
+    let tanks = [("load", 2), ("bath", 5), ("out", 8)];
+    line_of_rows(
+        alloc,
+        numbers,
+        &tanks,
+        &[row(&[0], 0, 1, 0), row(&[1], 5, 1, 1), row(&[2], 0, 0, 1)],
+    )
+}
+
+#[test]
+fn first_questions(rt: HostRuntime) -> Result<(), Fail> {
+    let alloc = rt.alloc();
+    let bath = one_bath(alloc).ok_or("no line")?;
+    let hoists = two_hoists(alloc).ok_or("no line")?;
+    let twice = rinse_twice(alloc).ok_or("no line")?;
+    let far = far_tank(alloc).ok_or("no line")?;
+    let shared = shared_track(alloc).ok_or("no line")?;
+    let short = [0, 10];
+    let long = [0, 4, 8, 12];
+    for (line, period, is_long, want) in [
+        (&bath, 8, false, on_moves(0, 1, -2)),
+        (&hoists, 8, false, on_moves(0, 1, -1)),
+        (&twice, 6, true, on_visits(1, 3, -1)),
+        (&far, 8, false, choose(1)),
+        (&shared, 9, false, assign(0)),
+    ] {
+        let ticks: &[i64] = if is_long { &long } else { &short };
+        let both = asked(alloc, line, ticks, period)?;
+        assert_eq!(rt; both, Some((Some(want), Some(want))), "{want:?}");
     }
     Ok(())
 }

@@ -1,0 +1,84 @@
+// The choices of tanks and of hoists on a path, by the numbers of the visits and of the moves.
+ghost use Rattle.std.specs.Prelude.{◌≡◌, ℕ, ◌+◌, ◌*◌, ◌<◌, ◌≤◌, ◌↔◌, length, get_or, None, IsTrue};
+ghost use Rattle.hoist_base.specs.LineData.{IsVisit, stage, move_count};
+ghost use Rattle.period_constraints.specs.Questions.{FitsPath};
+ghost use Rattle.period_constraints.specs.Pairs.{visit_count, IsFirstNumber};
+ghost use Rattle.period_constraints.specs.Marks.{AreChoices, AreAssigned, IsOpenByChoices, HaveTanks, AreChosen};
+
+use crate::holds::number_of;
+use crate::pairs::{visit_at, visit_count as count_of_visits};
+use choice_tree::{Decision, Question};
+use hoist_base::{Line, VisitId};
+
+/// The number of a visit among all visits.
+pub(crate) fn visit_number(line: &Line, visit: VisitId) -> u32
+    requires { IsVisit line.now visit.carrier visit.stage }
+    ensures value { result ≡ visit.carrier * length line.now.stages + visit.stage }
+    ensures there { result < visit_count line.now }
+{
+    visit.carrier * (line.inner() + 2) + visit.stage
+}
+
+/// Notes which tank of its stage each visit has by its Choose, and which hoist of those that reach it each move has by
+/// its Assign.
+pub(crate) fn mark(
+    line: &Line,
+    path: &[Decision],
+    choices: &mut [Option<u32>],
+    assigned: &mut [Option<u32>],
+)
+    requires fits { FitsPath line.now path.now }
+    requires room { (visit_count line.now ≤ length choices.old) × (move_count line.now ≤ length assigned.old) }
+    requires blank { ((i : ℕ) → get_or choices.old i None ≡ None) × ((i : ℕ) → get_or assigned.old i None ≡ None) }
+    ensures choices { AreChoices line.now path.now choices.new }
+    ensures assigned { AreAssigned line.now path.now assigned.new }
+{
+    for decision in path {
+        match decision.question {
+            Question::Choose { v } => {
+                choices[visit_number(line, v) as usize] = Some(decision.child);
+            }
+            Question::Assign { m } => {
+                let place = number_of(line, m.carrier, m.step);
+                assigned[place as usize] = Some(decision.child);
+            }
+            _ => {}
+        }
+    }
+}
+
+/// The first visit whose stage has a choice, where none is noted.
+pub(crate) fn first_open_visit(line: &Line, choices: &[Option<u32>]) -> Option<u32>
+    requires room { visit_count line.now ≤ length choices.now }
+    ensures { IsFirstNumber (IsOpenByChoices line.now choices.now) result }
+{
+    for number in 0..count_of_visits(line) {
+        if is_open(line, choices[number as usize], visit_at(line, number)) {
+            return Some(number);
+        }
+    }
+    None
+}
+
+// Whether the stage of a visit has a choice, where none is noted.
+fn is_open(line: &Line, choice: Option<u32>, visit: VisitId) -> bool
+    requires { IsVisit line.now visit.carrier visit.stage }
+    ensures { IsTrue result ↔ ((2 ≤ length (stage line.now visit.stage).tanks) × (choice ≡ None)) }
+{
+    let several = line.stages()[visit.stage as usize].tanks.as_slice().len() >= 2;
+    several && choice.is_none()
+}
+
+/// Writes the tank of each visit into its place: the one that is chosen, or the first of its stage.
+pub(crate) fn write_tanks(line: &Line, choices: &[Option<u32>], tanks: &mut [u32])
+    requires choices { HaveTanks line.now choices.now }
+    requires room { visit_count line.now ≤ length tanks.old }
+    ensures { AreChosen line.now choices.now tanks.new }
+{
+    for number in 0..count_of_visits(line) {
+        let visit = visit_at(line, number);
+        let chosen = choices[number as usize].unwrap_or(0);
+        let stage = &line.stages()[visit.stage as usize];
+        tanks[number as usize] = stage.tanks.as_slice()[chosen as usize];
+    }
+}
