@@ -1,0 +1,18 @@
+//! The expansion of one path: its least feasible period, and the question that its ticks leave open there.
+#![tactic(auto)]
+
+mod expanded;
+mod expander;
+mod names;
+mod path_system;
+mod rides;
+mod settling;
+mod solved;
+mod stuck;
+mod tanks;
+#[cfg(test)]
+mod tests;
+
+pub use expanded::Expanded;
+pub use expander::{Expander, expand, expand_on};
+pub use solved::{Hoists, Solved, Ticks};

@@ -1,0 +1,55 @@
+// The tanks and the hoists of a path that leaves none of them open.
+ghost use Rattle.std.specs.Prelude.{◌≡◌, ℕ, length, get_or, Some, IfOk};
+ghost use Rattle.hoist_base.specs.LineData.{IsMove, IsVisit, move_number, move_count};
+ghost use Rattle.hoist_base.specs.Routes.{IsRoute, route_tank};
+ghost use Rattle.period_constraints.specs.Questions.{FitsPath};
+ghost use Rattle.period_constraints.specs.Tanks.{tank_below};
+ghost use Rattle.period_constraints.specs.Hoists as below;
+ghost use Rattle.node_expand.specs.Settled.{HasTanks, HasHoists};
+
+use crate::rides::hoist_below;
+use crate::solved::Hoists;
+use crate::tanks::tanks_below;
+use choice_tree::Decision;
+use hoist_base::{Line, MoveId, Route, VisitId};
+use std::alloc::{AllocError, Global};
+
+/// The hoist of each move.
+pub(crate) fn hoists_of(alloc: Global, line: &Line, path: &[Decision]) -> Result<Hoists, AllocError>
+    requires fits { FitsPath line.now path.now }
+    requires settled { HasHoists line.now path.now }
+    ensures count { IfOk result (λ hoists. length hoists ≡ move_count line.now) }
+    ensures value { IfOk result (λ hoists. (c k : ℕ) → IsMove line.now c k → below.hoist_below line.now path.now c k ≡ Some (get_or hoists (move_number line.now c k) 0)) }
+{
+    let steps = line.inner() + 1;
+    let count = line.degree() * steps;
+    let mut numbers = Vec::with_capacity(alloc, count as usize)?;
+    for i in 0..count {
+        let m = MoveId {
+            carrier: i / steps,
+            step: i % steps,
+        };
+        numbers.push(hoist_below(line, path, m))?;
+    }
+    Ok(Hoists::from_vec(numbers))
+}
+
+/// The tank of each visit.
+pub(crate) fn route_of(alloc: Global, line: &Line, path: &[Decision]) -> Result<Route, AllocError>
+    requires fits { FitsPath line.now path.now }
+    requires settled { HasTanks line.now path.now }
+    ensures route { IfOk result (λ route. IsRoute line.now route) }
+    ensures value { IfOk result (λ route. (c k : ℕ) → IsVisit line.now c k → tank_below line.now path.now c k ≡ Some (route_tank line.now route c k)) }
+{
+    let stages = line.inner() + 2;
+    let count = line.degree() * stages;
+    let mut numbers = Vec::with_capacity(alloc, count as usize)?;
+    for i in 0..count {
+        let v = VisitId {
+            carrier: i / stages,
+            stage: i % stages,
+        };
+        numbers.push(tanks_below(line, path, v)[0])?;
+    }
+    Ok(Route::from_vec(numbers))
+}
