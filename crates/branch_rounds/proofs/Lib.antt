@@ -1,0 +1,15 @@
+pub mod TreeLemmas
+pub mod ListLemmas
+pub mod StayLemmas
+pub mod CountLemmas
+pub mod PlacedLemmas
+pub mod BoundLemmas
+pub mod FrontierLemmas
+pub mod TakeLemmas
+pub mod TextLemmas
+pub mod KeptLemmas
+pub mod RoundLemmas
+pub mod OutcomeLemmas
+pub mod QuestionLemmas
+pub mod ExpansionLemmas
+pub mod OneLemmas

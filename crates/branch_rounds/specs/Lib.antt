@@ -1,0 +1,4 @@
+pub mod Grown
+pub mod Counted
+pub mod Kept
+pub mod Laws
