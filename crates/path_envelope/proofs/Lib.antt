@@ -1,0 +1,10 @@
+pub mod RowLemmas
+pub mod LeastLemmas
+pub mod ShiftLemmas
+pub mod LayerLemmas
+pub mod FinishLemmas
+pub mod TableLemmas
+pub mod TraceLemmas
+pub mod NearLemmas
+pub mod FirstLemmas
+pub mod FitLemmas

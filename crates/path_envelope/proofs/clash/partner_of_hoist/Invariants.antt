@@ -1,0 +1,7 @@
+-- None of the hoist's moves so far is of the kind.
+use Rattle.path_envelope.specs.Duties.{duties}
+use Rattle.path_envelope.specs.FirstClash.{IsPartner, NoneOfHoist}
+use Rattle.path_envelope.proofs.clash.partner_of_hoist.Given as goal
+
+abbrev pub invariant-loop-number : goal.invariant-loop-number
+invariant-loop-number l = NoneOfHoist l.line (duties l.line l.route l.period l.starts l.hoists) (IsPartner l.line (duties l.line l.route l.period l.starts l.hoists) l.x) l.h l.number

@@ -1,0 +1,7 @@
+-- The moves so far are in the table.
+use Rattle.path_envelope.specs.Duties.{duties}
+use Rattle.path_envelope.specs.Slots.{IsTable}
+use Rattle.path_envelope.proofs.slots.write_hoist.Given as goal
+
+abbrev pub invariant-loop-number : goal.invariant-loop-number
+invariant-loop-number l = IsTable l.line (duties l.line l.route l.period l.starts l.hoists) l.h l.number l.table
