@@ -1,0 +1,15 @@
+pub mod Field
+pub mod Numbers
+pub mod Signed
+pub mod Words
+pub mod Items
+pub mod Loops
+pub mod Walks
+pub mod Rows
+pub mod Growing
+pub mod Ranges
+pub mod TableLines
+pub mod TableRead
+pub mod NodeRows
+pub mod Orders
+pub mod Whole

@@ -1,0 +1,7 @@
+pub mod Reading
+pub mod Gives
+pub mod Lines
+pub mod Trees
+pub mod Tables
+pub mod Parts
+pub mod Answers

@@ -1,0 +1,14 @@
+// The reader of answers' texts: whole answers, or where the bytes stop being one.
+#![tactic(auto)]
+
+mod answer;
+mod fields;
+mod lines;
+mod row;
+mod stop;
+mod table;
+#[cfg(test)]
+mod tests;
+mod tree;
+
+pub use answer::{AnswerRead, read_answer};
