@@ -1,0 +1,9 @@
+pub mod Walks
+pub mod Flaws
+pub mod Reasons
+pub mod Order
+pub mod Rules
+pub mod Laws
+pub mod Followed
+pub mod Judged
+pub mod Waiting

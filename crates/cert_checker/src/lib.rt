@@ -1,0 +1,22 @@
+// The checker of answers: whether an answer's tree proves its bound, with the first reason where an answer is rejected.
+#![tactic(auto)]
+
+mod checked;
+mod checking;
+mod claims;
+pub mod laws;
+mod nodes;
+mod periods;
+mod reason;
+mod stuck;
+mod tanks;
+#[cfg(test)]
+mod tests;
+mod tree;
+mod walks;
+#[cfg(test)]
+mod writable;
+
+pub use checked::{Checked, Claimed};
+pub use checking::check;
+pub use reason::{Reason, Sums};
