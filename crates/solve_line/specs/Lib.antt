@@ -1,0 +1,3 @@
+pub mod AnswerOf
+pub mod Claims
+pub mod Laws
