@@ -1,0 +1,5 @@
+pub mod Commands
+pub mod Forms
+pub mod Found
+pub mod Laws
+pub mod Request

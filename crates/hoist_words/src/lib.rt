@@ -1,0 +1,15 @@
+//! What the words of the program ask for.
+#![tactic(auto)]
+
+mod commands;
+mod forms;
+mod found;
+pub mod laws;
+mod numbers;
+mod requests;
+#[cfg(test)]
+mod tests;
+mod words;
+
+pub use requests::Request;
+pub use words::read_words;

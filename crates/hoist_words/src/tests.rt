@@ -1,0 +1,130 @@
+// Words and what they ask for.
+use crate::{Request, read_words};
+use std::alloc::Global;
+use std::test::Fail;
+
+/// Words, and what they ask for.
+#[derive(Clone, Copy)]
+struct Case<'a> {
+    words: &'a [&'a str],
+    asks: &'a str,
+}
+
+fn row<'a>(words: &'a [&'a str], asks: &'a str) -> Case<'a> {
+    Case { words, asks }
+}
+
+/// The request of the words as a text.
+fn told(alloc: Global, words: &[&str]) -> Result<String, Fail> {
+    let mut owned: Vec<String> = Vec::new(alloc);
+    for word in words {
+        owned.push(String::from_str(alloc, word)?)?;
+    }
+    let text = match read_words(alloc, owned.as_slice())? {
+        None => String::from_str(alloc, "nothing")?,
+        Some(
+            Request::Solve {
+                file,
+                budget,
+                workers,
+            },
+        ) => format!(in alloc; "solve {file} {budget} {workers}")?,
+        Some(Request::Check { file, answer }) => format!(in alloc; "check {file} {answer}")?,
+    };
+    Ok(text)
+}
+
+#[test]
+fn words_that_ask(rt: HostRuntime) -> Result<(), Fail> {
+    let rows = [
+        row(&["hoist", "solve", "f"], "solve f 20000 4"),
+        row(&["", "solve", "f"], "solve f 20000 4"),
+        row(&["hoist", "solve", "--budget=5", "f"], "solve f 5 4"),
+        row(&["hoist", "solve", "f", "--budget", "5"], "solve f 5 4"),
+        row(
+            &["hoist", "solve", "f", "--workers", "64"],
+            "solve f 20000 64",
+        ),
+        row(
+            &["hoist", "solve", "f", "--workers=7", "--budget=0"],
+            "solve f 0 7",
+        ),
+        row(
+            &["hoist", "solve", "--workers", "1", "f", "--budget", "20000"],
+            "solve f 20000 1",
+        ),
+        row(&["hoist", "solve", "a b=c"], "solve a b=c 20000 4"),
+        row(&["hoist", "check", "f", "a"], "check f a"),
+        row(&["hoist", "check", "f", "f"], "check f f"),
+    ];
+    for i in 0..rows.len() {
+        let text = told(rt.alloc(), rows[i].words)?;
+        assert_eq!(rt; text.as_str(), rows[i].asks, "row {i}");
+    }
+    Ok(())
+}
+
+#[test]
+fn words_that_ask_for_nothing(rt: HostRuntime) -> Result<(), Fail> {
+    let empty: [&str; 0] = [];
+    let rows = [
+        row(&empty, "nothing"),
+        row(&["hoist"], "nothing"),
+        row(&["hoist", "solve"], "nothing"),
+        row(&["hoist", "check"], "nothing"),
+        row(&["hoist", "help"], "nothing"),
+        row(&["hoist", "Solve", "f"], "nothing"),
+        row(&["hoist", "solve", ""], "nothing"),
+        row(&["hoist", "solve", "f", "g"], "nothing"),
+        row(&["hoist", "solve", "--", "f"], "nothing"),
+        row(&["hoist", "solve", "-", "f"], "nothing"),
+        row(&["hoist", "check", "f"], "nothing"),
+        row(&["hoist", "check", "f", "a", "b"], "nothing"),
+        row(&["hoist", "check", "f", "a", "--budget", "5"], "nothing"),
+        row(&["hoist", "check", "f", ""], "nothing"),
+    ];
+    for i in 0..rows.len() {
+        let text = told(rt.alloc(), rows[i].words)?;
+        assert_eq!(rt; text.as_str(), rows[i].asks, "row {i}");
+    }
+    Ok(())
+}
+
+#[test]
+fn options_that_are_refused(rt: HostRuntime) -> Result<(), Fail> {
+    let rows = [
+        row(&["hoist", "solve", "f", "--budget", "05"], "nothing"),
+        row(&["hoist", "solve", "f", "--budget", "+5"], "nothing"),
+        row(
+            &["hoist", "solve", "f", "--budget", "5", "--budget", "5"],
+            "nothing",
+        ),
+        row(
+            &["hoist", "solve", "f", "--budget=5", "--budget", "5"],
+            "nothing",
+        ),
+        row(&["hoist", "solve", "f", "--workers", "0"], "nothing"),
+        row(&["hoist", "solve", "f", "--workers", "65"], "nothing"),
+        row(&["hoist", "solve", "f", "--budget", "20001"], "nothing"),
+        row(&["hoist", "solve", "f", "--budget="], "nothing"),
+        row(&["hoist", "solve", "f", "--budget"], "nothing"),
+        row(
+            &["hoist", "solve", "--budget", "--workers", "5", "f"],
+            "nothing",
+        ),
+        row(&["hoist", "solve", "f", "--budgets", "5"], "nothing"),
+        row(&["hoist", "solve", "f", "-b", "5"], "nothing"),
+        row(&["--help", "solve"], "nothing"),
+        row(&["hoist", "--help"], "nothing"),
+        row(&["hoist", "--help", "f"], "nothing"),
+        row(&["hoist", "solve", "--help"], "nothing"),
+        row(&["hoist", "solve", "f", "--help"], "nothing"),
+        row(&["hoist", "solve", "f", "--budget", "--help"], "nothing"),
+        row(&["hoist", "solve", "f", "-V"], "nothing"),
+    ];
+    for i in 0..rows.len() {
+        let text = told(rt.alloc(), rows[i].words)?;
+        assert_eq!(rt; text.as_str(), rows[i].asks, "row {i}");
+    }
+    Ok(())
+}
