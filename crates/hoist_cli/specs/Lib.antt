@@ -1,2 +1,2 @@
-pub mod Request
 pub mod Reply
+pub mod Stops

@@ -1,11 +1,11 @@
-//! All that the program does: it reads its words and a line file, and prints the answer or what is wrong.
+//! All that the program does: it reads its words and the files that they name, and prints the answer or what is wrong.
 #![tactic(auto)]
 
-mod reply;
-mod request;
+mod checking;
+mod files;
+mod replies;
+mod solving;
 mod status;
-#[cfg(test)]
-mod tests;
 mod top;
 
 pub use status::Status;

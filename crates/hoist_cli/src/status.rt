@@ -3,23 +3,27 @@ use std::process::ExitCode;
 
 /// How a run of the program ends; the number is its exit status.
 ///
-/// - `Done`: the printed answer is optimal.
+/// - `Done`: the printed answer is optimal, or the checked answer is accepted.
+/// - `Negative`: the line has no legal timetable up to its greatest period, or the checked answer is rejected.
 /// - `Words`: the words of the program ask for nothing that it does.
+/// - `Unfinished`: the budget of splits was spent before the search ended.
 /// - `Line`: the file isn't a line file.
-/// - `Read`, `Write`: the file couldn't be read, the text couldn't be written whole.
-/// - `Long`: the file is longer than a line file may be.
+/// - `Broken`: the file of the answer isn't the text of an answer to the line.
+/// - `Read`, `Write`: a file couldn't be read, the text couldn't be written whole.
+/// - `Long`: a file is longer than it may be.
 /// - `Memory`: there was no memory.
-/// - `NotYet`: the line is valid, but lines like it aren't solved yet.
 #[derive(Clone, Copy, Debug, PartialEq, Eq)]
 pub enum Status {
     Done = 0,
+    Negative = 1,
     Words = 2,
+    Unfinished = 3,
     Line = 4,
+    Broken = 5,
     Read = 6,
     Write = 7,
     Long = 8,
     Memory = 9,
-    NotYet = 10,
 }
 
 impl Status {

@@ -1,4 +1,0 @@
-pub mod Short
-pub mod Parts
-pub mod Optimal
-pub mod Laws
