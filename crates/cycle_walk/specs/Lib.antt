@@ -3,3 +3,4 @@ pub mod Closed
 pub mod Trail
 pub mod Climb
 pub mod Laws
+pub mod Links

@@ -3,13 +3,15 @@
 ghost use Rattle.std.specs.Prelude.{◌≡◌, ℕ, ◌≤◌, ◌<◌, ◌<ℤ◌, ◌↔◌, pos, length, unsigned_abs, IfOk, IsTrue};
 ghost use Rattle.std.specs.Int.{div_ceil};
 ghost use Rattle.longest_path.specs.System.{IsSystem};
-ghost use Rattle.longest_path.specs.Rounds.{IsTable};
+ghost use Rattle.longest_path.specs.Room.{HasRoom};
+ghost use Rattle.cycle_walk.specs.Links.{AreLinks};
 ghost use Rattle.cycle_walk.specs.Closed.{IsClosedWalk, HasSmallSums};
 ghost use Rattle.cycle_walk.specs.Climb.{climbed, IsLeastFeasible, AreRefuted, AllWalks};
 
 use crate::Walk;
 use crate::closed_walks::walk_within;
-use longest_path::{Room, Step, System};
+use crate::links::link;
+use longest_path::{Room, System};
 use std::alloc::{AllocError, Global};
 
 /// What `climb` answers.
@@ -43,21 +45,11 @@ fn least_kept(w: i64, q: i64) -> u32
     w.unsigned_abs().div_ceil(q.unsigned_abs()) as u32
 }
 
-fn climb_within(
-    alloc: Global,
-    s: &System,
-    cap: u32,
-    steps: &mut [Step],
-    rows: &mut [i64],
-    seen: &mut [u32],
-    back: &mut [u32],
-) -> Result<Climbed, AllocError>
+fn climb_within(alloc: Global, s: &System, cap: u32, room: &mut Room) -> Result<Climbed, AllocError>
     requires valid { IsSystem s.now }
     requires cap { (2 ≤ cap) × (cap ≤ 20001) }
-    requires steps { length steps.old ≡ length s.now.arcs }
-    requires table { IsTable s.now rows.old }
-    requires seen { length seen.old ≡ s.now.nodes }
-    requires back { length back.old ≡ s.now.nodes }
+    requires room { HasRoom s.now room.old }
+    requires links { AreLinks s.now room.old.firsts.items room.old.nexts.items }
     ensures climb { IfOk result (λ answer. answer ≡ climbed s.now cap) }
     ensures least { IfOk result (λ answer. IsLeastFeasible s.now cap answer) }
     ensures refuted { IfOk result (λ answer. AreRefuted cap answer) }
@@ -66,7 +58,7 @@ fn climb_within(
     let mut period = 1;
     let mut low = None;
     while period < cap {
-        let found = walk_within(alloc, s, period, steps, rows, seen, back)?;
+        let found = walk_within(alloc, s, period, room)?;
         let Some(walk) = found else {
             return Ok(Climbed::Floor { period, low });
         };
@@ -94,16 +86,8 @@ pub fn climb_in(alloc: Global, room: &mut Room, s: &System, cap: u32) -> Result<
     ensures small { IfOk result (λ answer. AllWalks HasSmallSums answer) }
 {
     room.fit(s)?;
-    let n = s.nodes() as usize;
-    let answer = climb_within(
-        alloc,
-        s,
-        cap,
-        &mut room.steps[..s.arcs().len()],
-        &mut room.rows[..(n + 1) * n],
-        &mut room.seen[..n],
-        &mut room.back[..n],
-    )?;
+    link(s, &mut room.firsts, &mut room.nexts);
+    let answer = climb_within(alloc, s, cap, room)?;
     Ok(answer)
 }
 

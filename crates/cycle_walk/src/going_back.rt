@@ -6,6 +6,7 @@ ghost use Rattle.longest_path.specs.Rounds.{weights_at, cell};
 ghost use Rattle.cycle_walk.specs.Values.{AreValues};
 ghost use Rattle.cycle_walk.specs.Closed.{first_below, first_fit, Rises};
 ghost use Rattle.cycle_walk.specs.Trail.{IsTrail};
+ghost use Rattle.cycle_walk.specs.Links.{AreLinks};
 
 use longest_path::System;
 
@@ -43,24 +44,37 @@ fn gives(from: i64, weight: i64, wanted: i64) -> bool
 }
 
 // The first constraint that ends at node j and brings it its value of m + 1.
-fn fit(s: &System, period: u32, rows: &[i64], m: usize, j: u32) -> usize
+fn fit(
+    s: &System,
+    period: u32,
+    rows: &[i64],
+    firsts: &[u32],
+    nexts: &[u32],
+    m: usize,
+    j: u32,
+) -> usize
     requires period { period ≤ 20001 }
     requires m { m < s.now.nodes }
     requires j { j < s.now.nodes }
     requires rows { AreValues s.now period s.now.nodes rows.now }
+    requires firsts { length firsts.now ≡ s.now.nodes }
+    requires nexts { length nexts.now ≡ length s.now.arcs }
+    requires links { AreLinks s.now firsts.now nexts.now }
     ensures { result ≡ first_fit s.now (weights_at s.now period) m j }
 {
     let n = s.nodes() as usize;
     let old = m * n;
     let wanted = rows[old + n + j as usize];
     let arcs = s.arcs();
-    for k in 0..arcs.len() {
+    let mut k = firsts[j as usize] as usize;
+    while k < arcs.len() {
         let a = arcs[k];
-        if a.to == j && gives(rows[old + a.from as usize], a.weight(period), wanted) {
+        if gives(rows[old + a.from as usize], a.weight(period), wanted) {
             return k;
         }
+        k = nexts[k] as usize;
     }
-    arcs.len()
+    k
 }
 
 // The steps of a way back between the two places of the first node that came twice.
@@ -75,17 +89,24 @@ pub(crate) fn go_back(
     s: &System,
     period: u32,
     rows: &[i64],
+    firsts: &[u32],
+    nexts: &[u32],
     start: u32,
     seen: &mut [u32],
     back: &mut [u32],
 ) -> Turn
     requires period { period ≤ 20001 }
     requires rows { AreValues s.now period s.now.nodes rows.now }
+    requires firsts { length firsts.now ≡ s.now.nodes }
+    requires nexts { length nexts.now ≡ length s.now.arcs }
+    requires links { AreLinks s.now firsts.now nexts.now }
     requires start { start < s.now.nodes }
     requires rises { Rises s.now (weights_at s.now period) start }
     requires seen { length seen.old ≡ s.now.nodes }
     requires back { length back.old ≡ s.now.nodes }
-    ensures { IsTrail s.now period start back.new result.first result.end }
+    ensures seen { length seen.new ≡ s.now.nodes }
+    ensures back { length back.new ≡ s.now.nodes }
+    ensures trail { IsTrail s.now period start back.new result.first result.end }
 {
     let n = s.nodes();
     seen.fill(n);
@@ -93,7 +114,7 @@ pub(crate) fn go_back(
     let mut t = 0;
     while seen[j as usize] == n {
         seen[j as usize] = t;
-        let k = fit(s, period, rows, (n - 1 - t) as usize, j);
+        let k = fit(s, period, rows, firsts, nexts, (n - 1 - t) as usize, j);
         back[t as usize] = k as u32;
         j = s.arcs()[k].from;
         t += 1;

@@ -5,6 +5,7 @@ mod climbing;
 mod closed_walks;
 mod going_back;
 pub mod laws;
+mod links;
 #[cfg(test)]
 mod tests;
 mod walks;

@@ -81,6 +81,16 @@ fn one_bath(rt: HostRuntime) -> Result<(), Fail> {
     Ok(())
 }
 
+fn loops(alloc: Global, one: Arc, other: Arc) -> Result<System, AllocError>
+    requires one { (one.from ≡ 0) × (one.to ≡ 0) }
+    requires one_sizes { (unsigned_abs one.w ≤ 10000000) × (unsigned_abs one.q ≤ 1000000000) }
+    requires other { (other.from ≡ 0) × (other.to ≡ 0) }
+    requires other_sizes { (unsigned_abs other.w ≤ 10000000) × (unsigned_abs other.q ≤ 1000000000) }
+{
+    let arcs = vec![in alloc; one, other]?;
+    Ok(System::new(1, arcs))
+}
+
 // One node with two loops, in one room: fractional periods alone, the first of two equal loops, no loop that asks anything, weights at their ends.
 #[test]
 fn two_loops(rt: HostRuntime) -> Result<(), Fail> {
@@ -94,8 +104,7 @@ fn two_loops(rt: HostRuntime) -> Result<(), Fail> {
         (10_000_000, -1_000_000_000, 0, 0, 1, 0, 0),
         (-10_000_000, 1_000_000_000, 0, 0, 0, 0, 1),
     ] {
-        let arcs = vec![in alloc; between(0, 0, w, q), between(0, 0, other_w, other_q)]?;
-        let s = System::new(1, arcs);
+        let s = loops(alloc, between(0, 0, w, q), between(0, 0, other_w, other_q))?;
         let found = climb_in(alloc, &mut room, &s, 20_001)?;
         match found {
             Climbed::Floor { period, low: walk } => {

@@ -3,12 +3,14 @@ use Rattle.std.proofs.Common.{◌≡◌, ℕ, suc, ◌+◌, ◌-◌, ◌*◌, �
 use Rattle.std.proofs.lemmas.Bool.{cases_eq}
 use Rattle.std.proofs.lemmas.List.{get_or_append_left, get_or-append-add, get_or-take, get_or-drop}
 use Rattle.std.proofs.lemmas.Nat.{mul-le}
-use Rattle.longest_path.specs.declared.rounds.Step.{Step}
+use Rattle.std.specs.Prelude.{unsigned_abs}
+use Rattle.longest_path.specs.declared.room.Step.{Step}
+use Rattle.longest_path.specs.declared.room.Near.{Near}
 use Rattle.longest_path.specs.System.{SystemData, IsSystem, arc}
 use Rattle.longest_path.specs.Rounds.{weights_at, value_from, cell, number, AreRows, IsTable}
-use Rattle.longest_path.specs.Steps.{AreSteps, IsRound}
+use Rattle.longest_path.specs.Near.{IsMade, IsPacked}
 use Rattle.longest_path.proofs.ValueLemmas.{from_at, brought_same}
-use Rattle.longest_path.proofs.StepLemmas.{round_brings}
+use Rattle.longest_path.proofs.NearLemmas.{round_brings}
 
 -- ---- rows in a table
 -- the row that was written, behind those before it
@@ -67,15 +69,15 @@ row_whole n k r rows out e lt count is =
     )
 
 -- one more row
-pub rows_more : (s : SystemData) (period : ℕ) (first : ℕ → ℤ) (m n : ℕ) (steps : List Step) (old new : List ℤ) → IsSystem s → AreSteps s period (length s.arcs) n steps → AreRows s period first m old → IsTable s new → ((r i : ℕ) → r ≤ m → i < s.nodes → cell s.nodes new r i ≡ cell s.nodes old r i) → ((i : ℕ) → i < s.nodes → IsRound steps n (cell s.nodes old m) i (cell s.nodes new (m + 1) i)) → AreRows s period first (m + 1) new
-rows_more s period first m n steps old new valid are rows table kept made =
+pub rows_more : (s : SystemData) (period : ℕ) (first : ℕ → ℤ) (m n : ℕ) (near : Near) (steps : List Step) (old new : List ℤ) → IsSystem s → IsPacked s period (length s.arcs) n near steps → AreRows s period first m old → ((i : ℕ) → i < s.nodes → unsigned_abs (cell s.nodes old m i) ≤ 20000000000000000) → IsTable s new → ((r i : ℕ) → r ≤ m → i < s.nodes → cell s.nodes new r i ≡ cell s.nodes old r i) → ((i : ℕ) → i < s.nodes → IsMade s.nodes near steps n (cell s.nodes old m) i (cell s.nodes new (m + 1) i)) → AreRows s period first (m + 1) new
+rows_more s period first m n near steps old new valid are rows small table kept made =
     let wt = weights_at s period in
     record {
       table = table;
       is = λ r i le p.
           ⊎_elim
           (λ e.
-          ap (λ x. cell s.nodes new x i) e ∙ round_brings s period n steps (cell s.nodes old m) i (cell s.nodes new (m + 1) i) are (made i p)
+          ap (λ x. cell s.nodes new x i) e ∙ round_brings s period n near steps (cell s.nodes old m) i (cell s.nodes new (m + 1) i) are valid (λ j j_in. omega (arith, small j j_in)) p (made i p)
           ∙ brought_same s wt (cell s.nodes old m) wt (value_from s wt first m) i (length s.arcs) (rows.is m i (omega arith) p)
           (λ k lt. ap (λ z. z +ℤ wt k) (rows.is m (arc s k).from (omega arith) (valid.ends k lt).0))
           ∙ from_at s wt first (suc m) r i (omega (arith, e)))

@@ -4,56 +4,51 @@ use Rattle.std.specs.Prelude.{unsigned_abs}
 use Rattle.std.specs.Int.{int_max}
 use Rattle.std.proofs.lemmas.Int.{ints, clamps}
 use Rattle.std.proofs.lemmas.Bool.{cases_eq}
-use Rattle.longest_path.specs.declared.rounds.Step.{Step}
 use Rattle.longest_path.specs.System.{SystemData, IsSystem, arc, Solves}
 use Rattle.longest_path.specs.Rounds.{weights_at, value_from, number}
-use Rattle.longest_path.specs.Steps.{step, AreSteps, IsRaised, IsSettled}
+use Rattle.longest_path.specs.Steps.{IsRaised, IsSettled}
 use Rattle.longest_path.proofs.Cycles.{walk_bound, short_enough}
 use Rattle.longest_path.proofs.ValueLemmas.{is_brought, from_at, from_keeps, from_rises, from_most, from_some, from_small, begins_below}
 use Rattle.longest_path.proofs.LeastLemmas.{IsStill, still_solves}
 
 -- ---- one pass
--- one step more
-pub raised_more : (steps : List Step) (n m nodes : ℕ) (old : ℕ → ℤ) (new : List ℤ) (one : Step) (offer z : ℤ) → IsRaised steps n m nodes old (number new) → length new ≡ nodes → m < n → one ≡ step steps m → one.from < nodes → one.to < nodes → offer ≡ number new one.from +ℤ one.weight → z ≡ int_max (number new one.to) offer → IsRaised steps n (m + 1) nodes old (number (set new one.to z))
-raised_more steps n m nodes old new one offer z h count lt is from_in to_in sum max_is =
-    let from : one.from ≡ (step steps m).from = ap (λ (x : Step). x.from) is in
-    let to : one.to ≡ (step steps m).to = ap (λ (x : Step). x.to) is in
-    let here : number (set new one.to z) one.to ≡ z = get_or-set_same new one.to z (pos 0) (omega (arith, to_in, count)) in
-    let rises : (i : ℕ) → number new i ≤ℤ number (set new one.to z) i = λ i.
+-- one constraint more
+pub raised_more : (s : SystemData) (period m : ℕ) (old : ℕ → ℤ) (new : List ℤ) (from to : ℕ) (asks z : ℤ) → IsRaised s period m old (number new) → IsSystem s → length new ≡ s.nodes → m < length s.arcs → from ≡ (arc s m).from → to ≡ (arc s m).to → asks ≡ weights_at s period m → z ≡ int_max (number new to) (number new from +ℤ asks) → IsRaised s period (m + 1) old (number (set new to z))
+raised_more s period m old new from to asks z h valid count lt is_from is_to is_asks max_is =
+    let from_in : from < s.nodes = omega (arith, is_from, (valid.ends m lt).0) in
+    let to_in : to < s.nodes = omega (arith, is_to, (valid.ends m lt).1) in
+    let here : number (set new to z) to ≡ z = get_or-set_same new to z (pos 0) (omega (arith, to_in, count)) in
+    let rises : (i : ℕ) → number new i ≤ℤ number (set new to z) i = λ i.
     ⊎_elim
-    (λ same. omega (arith, ints, clamps, ap (number (set new one.to z)) same, here, max_is, ap (number new) same))
-    (λ other. omega (arith, ints, get_or-set_other new one.to i z (pos 0) other))
-    (cases_eq i one.to) in
+    (λ same. omega (arith, ints, clamps, ap (number (set new to z)) same, here, max_is, ap (number new) same))
+    (λ other. omega (arith, ints, get_or-set_other new to i z (pos 0) other))
+    (cases_eq i to) in
     record {
       keeps = λ i i_in. omega (arith, ints, h.keeps i i_in, rises i);
-      brings = λ p less.
+      brings = λ k less.
           ⊎_elim
           (λ e.
-          let gives : old (step steps p).from +ℤ (step steps p).weight ≡ old one.from +ℤ one.weight = ap (λ x. old (step steps x).from +ℤ (step steps x).weight) e ∙ ap (λ (x : Step). old x.from +ℤ x.weight) (sym is) in
-          let at : number (set new one.to z) (step steps p).to ≡ z = ap (λ x. number (set new one.to z) (step steps x).to) e ∙ ap (number (set new one.to z)) (sym to) ∙ here in
-          omega (arith, ints, clamps, gives, at, sum, max_is, h.keeps one.from from_in))
-          (λ ne. omega (arith, ints, h.brings p (omega (arith, less, ne)), rises (step steps p).to))
-          (cases_eq p m);
-      most = λ t meets above i i_in.
+          let gives : old (arc s k).from +ℤ weights_at s period k ≡ old from +ℤ asks = ap (λ x. old (arc s x).from +ℤ weights_at s period x) e ∙ omega (arith, ints, ap old is_from, is_asks) in
+          let at : number (set new to z) (arc s k).to ≡ z = ap (λ x. number (set new to z) (arc s x).to) e ∙ ap (number (set new to z)) (sym is_to) ∙ here in
+          omega (arith, ints, clamps, gives, at, max_is, h.keeps from from_in))
+          (λ ne. omega (arith, ints, h.brings k (omega (arith, less, ne)), rises (arc s k).to))
+          (cases_eq k m);
+      most = λ t solves above i i_in.
           ⊎_elim
           (λ same.
-          let at : number (set new one.to z) i ≡ z = ap (number (set new one.to z)) same ∙ here in
-          let met = meets m lt in
-          let t_from : t one.from ≡ t (step steps m).from = ap t from in
-          let t_to : t one.to ≡ t (step steps m).to = ap t to in
-          let t_same : t i ≡ t one.to = ap t same in
-          let weighs : one.weight ≡ (step steps m).weight = ap (λ (x : Step). x.weight) is in
-          omega (arith, ints, clamps, at, met, t_from, t_to, t_same, weighs, sum, max_is, h.most t meets above one.from from_in, h.most t meets above one.to to_in))
-          (λ other. omega (arith, ints, get_or-set_other new one.to i z (pos 0) other, h.most t meets above i i_in))
-          (cases_eq i one.to);
+          let at : number (set new to z) i ≡ z = ap (number (set new to z)) same ∙ here in
+          let met = solves m lt in
+          omega (arith, ints, clamps, at, met, ap t is_from, ap t is_to, ap t same, is_asks, max_is, h.most t solves above from from_in, h.most t solves above to to_in))
+          (λ other. omega (arith, ints, get_or-set_other new to i z (pos 0) other, h.most t solves above i i_in))
+          (cases_eq i to);
     }
 
--- before any step
-pub raised_none : (steps : List Step) (n nodes : ℕ) (old : ℕ → ℤ) → IsRaised steps n 0 nodes old old
-raised_none steps n nodes old = record {
+-- before any
+pub raised_none : (s : SystemData) (period : ℕ) (old : ℕ → ℤ) → IsRaised s period 0 old old
+raised_none s period old = record {
   keeps = λ i i_in. omega (arith, ints);
-  brings = λ p less. absurd (omega (arith, less));
-  most = λ t meets above i i_in. above i i_in;
+  brings = λ k less. absurd (omega (arith, less));
+  most = λ t solves above i i_in. above i i_in;
 }
 
 -- ---- pass by pass
@@ -74,36 +69,19 @@ between_first s period row count = record {
   most = λ t solves above i i_in. above i i_in;
 }
 
-pub between_more : (s : SystemData) (period m n : ℕ) (first : ℕ → ℤ) (steps : List Step) (old new : List ℤ) → AreSteps s period (length s.arcs) n steps → IsSystem s → IsBetween s period first m old → length new ≡ s.nodes → IsRaised steps n n s.nodes (number old) (number new) → IsBetween s period first (m + 1) new
-between_more s period m n first steps old new are valid h count raised =
+pub between_more : (s : SystemData) (period m : ℕ) (first : ℕ → ℤ) (old new : List ℤ) → IsSystem s → IsBetween s period first m old → length new ≡ s.nodes → IsRaised s period (length s.arcs) (number old) (number new) → IsBetween s period first (m + 1) new
+between_more s period m first old new valid h count raised =
     let wt = weights_at s period in
     let v = value_from s wt first m in
     record {
       count = count;
       low = λ i i_in.
           let next : value_from s wt first (m + 1) i ≡ value_from s wt first (suc m) i = from_at s wt first (m + 1) (suc m) i (omega arith) in
-          let kept = raised.keeps i i_in in
           ⊎_elim
-          (λ same. omega (arith, ints, next, same, h.low i i_in, kept))
-          (λ (k, (k_in, to, is)).
-          ⊎_elim
-          (λ (loop, less). omega (arith, ints, next, is, less, ap v (loop ∙ to), h.low i i_in, kept))
-          (λ (p, p_in, same).
-          let from : number old (step steps p).from ≡ number old (arc s k).from = ap (λ (x : Step). number old x.from) same in
-          let at : number new (step steps p).to ≡ number new i = ap (λ (x : Step). number new x.to) same ∙ ap (number new) to in
-          let weighs : (step steps p).weight ≡ wt k = ap (λ (x : Step). x.weight) same in
-          omega (arith, ints, next, is, from, at, weighs, raised.brings p p_in, h.low (arc s k).from (valid.ends k k_in).0))
-          (are.all k k_in))
+          (λ same. omega (arith, ints, next, same, h.low i i_in, raised.keeps i i_in))
+          (λ (k, (k_in, to, is)). omega (arith, ints, next, is, ap (number new) to, raised.brings k k_in, h.low (arc s k).from (valid.ends k k_in).0))
           (is_brought s wt v i (length s.arcs));
-      most = λ t solves above i i_in.
-          raised.most t
-          (λ p less.
-          let (k, k_in, same) = are.some p less in
-          let from : t (step steps p).from ≡ t (arc s k).from = ap (λ (x : Step). t x.from) same in
-          let to : t (step steps p).to ≡ t (arc s k).to = ap (λ (x : Step). t x.to) same in
-          let weighs : (step steps p).weight ≡ wt k = ap (λ (x : Step). x.weight) same in
-          omega (arith, ints, from, to, weighs, solves k k_in))
-          (λ j j_in. h.most t solves above j j_in) i i_in;
+      most = λ t solves above i i_in. raised.most t solves (λ j j_in. h.most t solves above j j_in) i i_in;
     }
 
 -- ---- where it ends
@@ -124,18 +102,9 @@ below_last s period m first t row valid solves h i i_in =
     (λ j j_in. omega (arith, ints, from_rises s wt first 0 (s.nodes - 1) j, from_at s wt first (0 + (s.nodes - 1)) (s.nodes - 1) j (omega arith))) i i_in
 
 -- a row that a pass left as it was solves the system
-pub raised_solves : (s : SystemData) (period n : ℕ) (steps : List Step) (old new : List ℤ) → AreSteps s period (length s.arcs) n steps → IsSystem s → IsRaised steps n n s.nodes (number old) (number new) → ((i : ℕ) → i < s.nodes → number new i ≡ number old i) → Solves s period (number new)
-raised_solves s period n steps old new are valid raised same k k_in =
-    let wt = weights_at s period in
-    let now_from = same (arc s k).from (valid.ends k k_in).0 in
-    ⊎_elim
-    (λ (loop, less). omega (arith, ints, less, ap (number new) loop))
-    (λ (p, p_in, is).
-    let from : number old (step steps p).from ≡ number old (arc s k).from = ap (λ (x : Step). number old x.from) is in
-    let to : number new (step steps p).to ≡ number new (arc s k).to = ap (λ (x : Step). number new x.to) is in
-    let weighs : (step steps p).weight ≡ wt k = ap (λ (x : Step). x.weight) is in
-    omega (arith, ints, now_from, from, to, weighs, raised.brings p p_in))
-    (are.all k k_in)
+pub raised_solves : (s : SystemData) (period : ℕ) (old new : List ℤ) → IsSystem s → IsRaised s period (length s.arcs) (number old) (number new) → ((i : ℕ) → i < s.nodes → number new i ≡ number old i) → Solves s period (number new)
+raised_solves s period old new valid raised same k k_in =
+    omega (arith, ints, same (arc s k).from (valid.ends k k_in).0, raised.brings k k_in)
 
 -- and it is the last row of the rounds
 pub settled : (s : SystemData) (period m : ℕ) (first : ℕ → ℤ) (row : List ℤ) → IsSystem s → IsBetween s period first m row → Solves s period (number row) → IsSettled s period first row

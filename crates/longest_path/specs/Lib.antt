@@ -1,6 +1,7 @@
 pub mod System
 pub mod Rounds
 pub mod Steps
+pub mod Near
 pub mod Answer
 pub mod Laws
 pub mod Room

@@ -1,11 +1,15 @@
 -- Room for the rounds of a system.
-use Rattle.std.specs.Prelude.{◌+◌, ◌*◌, ◌≤◌, length}
+use Rattle.std.specs.Prelude.{◌≡◌, ◌+◌, ◌*◌, length}
 use Rattle.longest_path.specs.System.{SystemData}
-use Rattle.longest_path.specs.declared.rounds.Room.{Room}
+use Rattle.longest_path.specs.Near.{HasNodes}
+use Rattle.longest_path.specs.declared.room.Room.{Room}
 
-abbrev pub HasRoom : SystemData → Room → Type 0
-HasRoom s room =
-    (length s.arcs ≤ length room.steps.items)
-    × ((s.nodes + 1) * s.nodes ≤ length room.rows.items)
-    × (s.nodes ≤ length room.seen.items)
-    × (s.nodes ≤ length room.back.items)
+-- the lengths that a system needs: a number a constraint or a node, and a row more than nodes
+pub record HasRoom (s : SystemData) (room : Room) : Type 0 where
+  pub near : HasNodes s.nodes room.near
+  pub steps : length room.steps.items ≡ length s.arcs
+  pub rows : length room.rows.items ≡ (s.nodes + 1) * s.nodes
+  pub seen : length room.seen.items ≡ s.nodes
+  pub back : length room.back.items ≡ s.nodes
+  pub firsts : length room.firsts.items ≡ s.nodes
+  pub nexts : length room.nexts.items ≡ length s.arcs

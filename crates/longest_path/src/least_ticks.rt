@@ -7,7 +7,7 @@ ghost use Rattle.longest_path.specs.Answer.{IsLeastAnswer, KeepsWithin, HasTicks
 ghost use Rattle.longest_path.specs.Start.{far};
 
 use crate::settling::settle;
-use crate::{Room, Step, System};
+use crate::{Room, System};
 use std::alloc::{AllocError, Global};
 
 // Stands for a node that no walk has reached yet: below all that walks from node 0 bring, by more than walks bring back.
@@ -35,12 +35,10 @@ fn least_within(
     alloc: Global,
     s: &System,
     period: u32,
-    steps: &mut [Step],
     rows: &mut [i64],
 ) -> Result<LeastTicks, AllocError>
     requires period { (1 ≤ period) × (period ≤ 20001) }
     requires reached { (i : ℕ) → i < s.now.nodes → IsReached s.now i }
-    requires steps { length steps.old ≡ length s.now.arcs }
     requires table { IsTable s.now rows.old }
     ensures least { IfOk result (λ answer. IsLeastAnswer s.now period answer) }
     ensures within { IfOk result (λ answer. KeepsWithin s.now period answer) }
@@ -49,7 +47,7 @@ fn least_within(
     let n = s.nodes() as usize;
     let (row, rest) = rows.split_at_mut(n);
     begin(row);
-    if !settle(s, period, steps, row, &mut rest[..n]) {
+    if !settle(s, period, row, &mut rest[..n]) {
         return Ok(LeastTicks::Positive);
     }
     let ticks = Vec::from_slice(alloc, row)?;
@@ -72,14 +70,7 @@ pub fn least_in(
     ensures small { IfOk result (λ answer. HasTicksWithin 2500000000000000 answer) }
 {
     room.fit(s)?;
-    let n = s.nodes() as usize;
-    let answer = least_within(
-        alloc,
-        s,
-        period,
-        &mut room.steps[..s.arcs().len()],
-        &mut room.rows[..(n + 1) * n],
-    )?;
+    let answer = least_within(alloc, s, period, &mut room.rows)?;
     Ok(answer)
 }
 

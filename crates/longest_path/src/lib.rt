@@ -3,6 +3,8 @@
 
 pub mod laws;
 mod least_ticks;
+mod packing;
+mod room;
 mod rounds;
 mod settling;
 mod systems;
@@ -10,5 +12,6 @@ mod systems;
 mod tests;
 
 pub use least_ticks::{LeastTicks, least, least_in};
-pub use rounds::{Room, Step, fill};
+pub use room::{Near, Room, Step};
+pub use rounds::fill;
 pub use systems::{Arc, System};

@@ -1,28 +1,30 @@
 //! Relaxation in place, which settles in a few passes where there are solutions.
 
 ghost use Rattle.std.specs.Prelude.{◌≡◌, ℕ, ◌+◌, ◌≤◌, ◌<◌, ◌≤ℤ◌, ◌<ℤ◌, length, pos, false, unsigned_abs, IsTrue};
-ghost use Rattle.longest_path.specs.System.{HasNoSolution};
+ghost use Rattle.longest_path.specs.System.{IsSystem, HasNoSolution};
 ghost use Rattle.longest_path.specs.Rounds.{number};
-ghost use Rattle.longest_path.specs.Steps.{FitNodes, IsRaised, IsSettled};
+ghost use Rattle.longest_path.specs.Steps.{IsRaised, IsSettled};
 
-use crate::rounds::{has_changed, weigh};
-use crate::{Step, System};
+use crate::System;
+use crate::rounds::has_changed;
 
 // More than walks of as many constraints as there can be nodes bring any node.
 const MOST: i64 = 20_000_000_000_000_000;
 
-// Raises a row in place: each end, one after another, to what its step brings it.
-fn raise(steps: &[Step], count: usize, row: &mut [i64])
-    requires steps { (count ≤ length steps.now) × FitNodes (length row.old) count steps.now }
-    requires count { count ≤ 30000 }
-    requires small { (i : ℕ) → i < length row.old → unsigned_abs (number row.old i) ≤ 20000000000000000 }
+// Raises a row in place: each end, one after another, to what its constraint brings it.
+fn raise(s: &System, period: u32, row: &mut [i64])
+    requires valid { IsSystem s.now }
+    requires period { period ≤ 20001 }
+    requires row { length row.old ≡ s.now.nodes }
+    requires small { (i : ℕ) → i < s.now.nodes → unsigned_abs (number row.old i) ≤ 20000000000000000 }
     ensures len { length row.new ≡ length row.old }
-    ensures row { IsRaised steps.now count count (length row.old) (number row.old) (number row.new) }
+    ensures row { IsRaised s.now period (length s.now.arcs) (number row.old) (number row.new) }
 {
-    for k in 0..count {
-        let step = steps[k];
-        let to = step.to as usize;
-        let offer = row[step.from as usize] + step.weight;
+    let arcs = s.arcs();
+    for k in 0..arcs.len() {
+        let a = arcs[k];
+        let to = a.to as usize;
+        let offer = row[a.from as usize] + a.weight(period);
         row[to] = row[to].max(offer);
     }
 }
@@ -49,15 +51,8 @@ fn passes_most(row: &[i64]) -> bool
 }
 
 // Raises a row pass by pass until one changes nothing: true. False where no ticks solve the system, which as many passes as nodes show, or a number that no walks bring.
-pub(crate) fn settle(
-    s: &System,
-    period: u32,
-    steps: &mut [Step],
-    row: &mut [i64],
-    before: &mut [i64],
-) -> bool
+pub(crate) fn settle(s: &System, period: u32, row: &mut [i64], before: &mut [i64]) -> bool
     requires period { period ≤ 20001 }
-    requires steps { length steps.old ≡ length s.now.arcs }
     requires row { length row.old ≡ s.now.nodes }
     requires before { length before.old ≡ s.now.nodes }
     requires small { (i : ℕ) → i < s.now.nodes → unsigned_abs (number row.old i) ≤ 10000000000000000 }
@@ -65,10 +60,9 @@ pub(crate) fn settle(
     ensures settled { IsTrue result → IsSettled s.now period (number row.old) row.new }
     ensures none { result ≡ false → HasNoSolution s.now period }
 {
-    let count = weigh(s, period, steps);
     for _m in 0..s.nodes() {
         before.copy_from_slice(row);
-        raise(steps, count, row);
+        raise(s, period, row);
         if !has_changed(before, row) {
             return true;
         }

@@ -11,7 +11,7 @@ abbrev cast : ℤ → ℤ
 cast z = to_z w64 (of_z w64 z)
 
 pub loop-period-init : goal.loop-period-init
-loop-period-init c = (c.requires.table, omega arith, (c.args.cap, omega arith, refl), λ t a b. absurd (omega (arith, a, b)), λ t a b. absurd (omega (arith, a, b)), tt)
+loop-period-init c = ((c.requires.room, c.requires.links), omega arith, (c.args.cap, omega arith, refl), λ t a b. absurd (omega (arith, a, b)), λ t a b. absurd (omega (arith, a, b)), tt)
 
 pub returns-in_default-clause-climb : goal.returns-in_default-clause-climb
 returns-in_default-clause-climb c =
@@ -69,7 +69,7 @@ loop-period-preserved c =
     let kept : c.least_kept-period.result ≡ least_kept walk = c.least_kept-period.ensures ∙ ap (λ z. div_ceil (unsigned_abs z) (unsigned_abs (cast c.q-in-loop-period.result))) w_is ∙ ap (λ z. div_ceil (unsigned_abs walk.w) (unsigned_abs z)) q_is in
     let (fuel, enough, is) = c.loop-period.invariant.2 in
     let next = climb_raises s c.args.cap fuel period c.loop-period.low walk _ c.loop-period-test.true enough some down later is in (
-      c.in_ok-found.ensures.table,
+      (c.in_ok-found.ensures.room, c.in_ok-found.ensures.links),
       omega (arith, kept, later),
       rw kept next,
       λ t low lt f. none_before s period walk refuted down t (omega (arith, lt, kept)) f,

@@ -45,6 +45,6 @@ loop-seen-preserved c =
     rw c.arcs.ensures.value
     (way_more c.args.s.now c.args.period c.args.start c.loop-seen.t c.loop-seen.j c.fit-k.result c.loop-seen.back c.loop-seen.seen c.nodes-n.ensures.valid c.requires.start c.requires.rises c.loop-seen.invariant unseen at.0)
 
-pub returns : goal.returns
-returns c =
+pub returns-clause-trail : goal.returns-clause-trail
+returns-clause-trail c =
     way_ends c.args.s.now c.args.period c.args.start c.loop-seen.t c.loop-seen.j c.loop-seen.back c.loop-seen.seen c.nodes-n.ensures.valid c.requires.start c.requires.rises c.loop-seen.invariant (λ e. c.loop-seen-test.false (e ∙ sym c.nodes-n.ensures.value))

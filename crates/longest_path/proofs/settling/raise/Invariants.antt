@@ -6,5 +6,5 @@ use Rattle.longest_path.proofs.settling.raise.Given as goal
 
 abbrev pub invariant-loop-k : goal.invariant-loop-k
 invariant-loop-k l =
-    IsRaised l.steps l.count l.k (length l.fn.row) (number l.fn.row) (number l.row)
+    IsRaised l.s l.period l.k (number l.fn.row) (number l.row)
     × ((i : ℕ) → i < length l.fn.row → unsigned_abs (number l.row i) ≤ 20000000000000000 + l.k * 30000000000000)

@@ -1,18 +1,9 @@
-use Rattle.std.proofs.Common.{◌≡◌, ◌∙◌, ℕ, ◌+◌, ◌-◌, ◌<◌, subst, refl, length, List, ℤ, ap, arith}
+use Rattle.std.proofs.Common.{◌≡◌, ◌∙◌, ℕ, ◌+◌, ◌-◌, ◌<◌, refl, length, List, ℤ, ap, arith}
 use Rattle.std.proofs.lemmas.Int.{ints}
 use Rattle.longest_path.specs.Rounds.{number, weights_at}
-use Rattle.longest_path.specs.Steps.{IsRaised}
 use Rattle.longest_path.proofs.ValueLemmas.{from_at, from_small}
-use Rattle.longest_path.proofs.StepLemmas.{steps_fit}
 use Rattle.longest_path.proofs.SettleLemmas.{between_more, raised_solves, settled, none_above, none_grown}
 use Rattle.longest_path.proofs.settling.settle.Goals as goal
-
-pub raise-requires-clause-steps : goal.raise-requires-clause-steps
-raise-requires-clause-steps c =
-    let s = c.args.s.now in
-    let are = c.weigh-count.ensures in
-    let fit = steps_fit s c.args.period c.weigh-count.result c.weigh-count.new.steps c.nodes-m-end.ensures.valid c.requires.period are in
-    (omega (arith, are.few, are.room), λ p less. (omega (arith, (fit p less).0, c.loop-m.invariant.0.count), omega (arith, (fit p less).1, c.loop-m.invariant.0.count), (fit p less).2))
 
 pub loop-m-preserved : goal.loop-m-preserved
 loop-m-preserved c =
@@ -20,13 +11,11 @@ loop-m-preserved c =
     let m = c.loop-m._m in
     let first = number c.args.row.now in
     let valid = c.nodes-m-end.ensures.valid in
-    let n = c.weigh-count.result in
-    let steps = c.weigh-count.new.steps in
     let old = c.loop-m.row in
     let new = c.raise.new.row in
     let count : length new ≡ s.nodes = c.raise.ensures.len ∙ c.loop-m.invariant.0.count in
-    let raised : IsRaised steps n n s.nodes (number old) (number new) = subst (λ (k : ℕ). IsRaised steps n n k (number old) (number new)) c.loop-m.invariant.0.count c.raise.ensures.row in
-    let between = between_more s c.args.period m n first steps old new c.weigh-count.ensures valid c.loop-m.invariant.0 count raised in (
+    let raised = c.raise.ensures.row in
+    let between = between_more s c.args.period m first old new valid c.loop-m.invariant.0 count raised in (
       between,
       λ i i_in.
           omega (arith, ints, between.low i i_in, c.if-passes_most.ensures.no refl i (omega (arith, i_in, count)), from_small s c.args.period first (m + 1) i valid c.requires.period (omega (arith, c.loop-m-test.true, c.nodes-m-end.ensures.value, valid.nodes.1)) c.requires.small i_in),
@@ -43,15 +32,13 @@ returns-then-not-has_changed-clause-settled c _ =
     let m = c.loop-m._m in
     let first = number c.args.row.now in
     let valid = c.nodes-m-end.ensures.valid in
-    let n = c.weigh-count.result in
-    let steps = c.weigh-count.new.steps in
     let old = c.loop-m.row in
     let new = c.raise.new.row in
     let count : length new ≡ s.nodes = c.raise.ensures.len ∙ c.loop-m.invariant.0.count in
-    let raised : IsRaised steps n n s.nodes (number old) (number new) = subst (λ (k : ℕ). IsRaised steps n n k (number old) (number new)) c.loop-m.invariant.0.count c.raise.ensures.row in
-    let between = between_more s c.args.period m n first steps old new c.weigh-count.ensures valid c.loop-m.invariant.0 count raised in
+    let raised = c.raise.ensures.row in
+    let between = between_more s c.args.period m first old new valid c.loop-m.invariant.0 count raised in
     let same : (i : ℕ) → i < s.nodes → number new i ≡ number old i = λ i i_in. c.if-not-has_changed.ensures.still refl i (omega (arith, i_in, c.copy_from_slice.ensures.len, c.loop-m.auto.before, c.requires.before)) ∙ ap (λ (xs : List ℤ). number xs i) c.copy_from_slice.ensures.after in
-    settled s c.args.period (m + 1) first new valid between (raised_solves s c.args.period n steps old new c.weigh-count.ensures valid raised same)
+    settled s c.args.period (m + 1) first new valid between (raised_solves s c.args.period old new valid raised same)
 
 pub returns-then-passes_most-clause-none : goal.returns-then-passes_most-clause-none
 returns-then-passes_most-clause-none c _ t solves =
@@ -59,13 +46,11 @@ returns-then-passes_most-clause-none c _ t solves =
     let m = c.loop-m._m in
     let first = number c.args.row.now in
     let valid = c.nodes-m-end.ensures.valid in
-    let n = c.weigh-count.result in
-    let steps = c.weigh-count.new.steps in
     let old = c.loop-m.row in
     let new = c.raise.new.row in
     let count : length new ≡ s.nodes = c.raise.ensures.len ∙ c.loop-m.invariant.0.count in
-    let raised : IsRaised steps n n s.nodes (number old) (number new) = subst (λ (k : ℕ). IsRaised steps n n k (number old) (number new)) c.loop-m.invariant.0.count c.raise.ensures.row in
-    let between = between_more s c.args.period m n first steps old new c.weigh-count.ensures valid c.loop-m.invariant.0 count raised in
+    let raised = c.raise.ensures.row in
+    let between = between_more s c.args.period m first old new valid c.loop-m.invariant.0 count raised in
     let (i, lt, above) = c.if-passes_most.ensures.yes refl in
     none_above s c.args.period (m + 1) first t new i valid c.requires.period c.requires.small between (omega (arith, lt, count)) above solves
 
