@@ -6,3 +6,5 @@ pub mod FloorLemmas
 pub mod SettledLemmas
 pub mod ExpandLemmas
 pub mod ReachLemmas
+pub mod CapLemmas
+pub mod LeastLemmas

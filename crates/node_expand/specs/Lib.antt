@@ -4,3 +4,4 @@ pub mod Shown
 pub mod PathSystems
 pub mod Settled
 pub mod Reaching
+pub mod Climbs

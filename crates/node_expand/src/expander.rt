@@ -1,30 +1,30 @@
 // The expansion of paths.
-ghost use Rattle.std.specs.Prelude.{◌≡◌, ℕ, ◌<◌, ◌≤◌, [], length, map, get_or, option_map, IfOk, IfSome};
-ghost use Rattle.hoist_base.specs.LineData.{move_count};
+ghost use Rattle.std.specs.Prelude.{◌≡◌, ℕ, ◌<◌, ◌≤◌, [], length, take, IfOk, IfSome};
+ghost use Rattle.hoist_base.specs.LineData.{LineData, move_count};
 ghost use Rattle.hoist_base.specs.Routes.{IsRoute};
-ghost use Rattle.longest_path.specs.System.{IsLeastSolution};
-ghost use Rattle.cycle_walk.specs.Closed.{IsFeasible};
-ghost use Rattle.choice_tree.specs.declared.constraint.Constraint.{Constraint};
 ghost use Rattle.period_constraints.specs.Questions.{FitsPath};
+ghost use Rattle.period_constraints.specs.Order.{IsFirstQuestion};
 ghost use Rattle.period_constraints.specs.Places.{system_below};
-ghost use Rattle.period_constraints.specs.Ticks.{AreTicks};
+ghost use Rattle.period_constraints.specs.Ticks.{tick_at};
 ghost use Rattle.period_constraints.specs.Lookups.{IsLookupOf};
 ghost use Rattle.node_expand.specs.PathSystems.{IsAt};
 ghost use Rattle.node_expand.specs.Settled.{HasTanks, HasHoists};
 ghost use Rattle.node_expand.specs.Plannable.{Settles};
 ghost use Rattle.node_expand.specs.Expansion.{NoneStuck, IsExpansion};
 ghost use Rattle.node_expand.specs.Shown.{Shows, HasShortWalks};
+ghost use Rattle.node_expand.specs.Climbs.{EndsInHoists, IsLeastPeriodOf, AreClimbs, IsClimbOf};
 
+use crate::climbs::{Climbs, without_hoists};
 use crate::expanded::Expanded;
+use crate::least_period::{LeastPeriod, PathClimb, climb_at};
 use crate::path_system::PathSystem;
 use crate::rides::child_count;
 use crate::settling::{hoists_of, route_of};
 use crate::solved::{Solved, Ticks};
 use crate::stuck::Reach;
-use choice_tree::{Decision, Proof};
-use cycle_walk::{Climbed, Walk, climb_in};
+use choice_tree::{Decision, Question};
 use hoist_base::Line;
-use longest_path::{LeastTicks, Room, System, least_in};
+use longest_path::{Room, System};
 use period_constraints::{Lookup, base_of};
 use std::alloc::{AllocError, Global};
 use std::marker::Model;
@@ -36,6 +36,7 @@ pub struct Expander {
     lookup: Lookup,
     reach: Reach,
     at: PathSystem,
+    climbs: Climbs,
     room: Room,
 }
 
@@ -43,46 +44,14 @@ impl Model for Expander {
     ghost use Rattle.hoist_base.specs.LineData.{LineData};
     ghost use Rattle.node_expand.specs.PathSystems.{IsPathSystem};
     ghost use Rattle.node_expand.specs.Reaching.{IsReachOf};
+    ghost use Rattle.node_expand.specs.Climbs.{AreClimbs};
     ghost use Rattle.period_constraints.specs.Lookups.{IsLookupOf};
 
     ghost Value = { LineData };
 
     ghost view = { λ e. e.line };
 
-    ghost invariant = { λ e. IsPathSystem e.line e.at × IsReachOf e.line e.reach × IsLookupOf e.line e.lookup };
-}
-
-// The names of a walk that may be missing.
-fn proof_of(alloc: Global, at: &PathSystem, walk: Option<Walk>) -> Result<Option<Proof>, AllocError>
-    requires { IfSome walk (λ w. (k : ℕ) → k < length w.arcs → get_or w.arcs k 0 < length at.now.names.items) }
-    ensures { IfOk result (λ proof. proof ≡ option_map (λ w. map (λ k. get_or at.now.names.items k (Constraint.Entry 0)) w.arcs) walk) }
-{
-    match walk {
-        None => Ok(None),
-        Some(walk) => Ok(Some(at.proof_of(alloc, &walk)?)),
-    }
-}
-
-// The least ticks of all moves at a feasible period of a path.
-fn ticks_at(
-    alloc: Global,
-    room: &mut Room,
-    at: &PathSystem,
-    line: &Line,
-    path: &[Decision],
-    period: u32,
-) -> Result<Vec<i64>, AllocError>
-    requires at { IsAt line.now path.now at.now }
-    requires period { (1 ≤ period) × (period ≤ 20001) }
-    requires feasible { IsFeasible (system_below line.now path.now) period }
-    ensures least { IfOk result (λ ticks. IsLeastSolution (system_below line.now path.now) period ticks.items) }
-    ensures ticks { IfOk result (λ ticks. AreTicks line.now ticks.items) }
-{
-    let _inner = line.inner();
-    match least_in(alloc, room, &at.system, period)? {
-        LeastTicks::Feasible(ticks) => Ok(ticks),
-        LeastTicks::Positive => unreachable!(),
-    }
+    ghost invariant = { λ e. IsPathSystem e.line e.at × IsReachOf e.line e.reach × IsLookupOf e.line e.lookup × AreClimbs e.line e.climbs };
 }
 
 // The solved path, where these ticks leave no question.
@@ -91,13 +60,13 @@ fn solved_of(
     line: &Line,
     path: &[Decision],
     period: u32,
-    ticks: Vec<i64>,
+    ticks: Ticks,
 ) -> Result<Solved, AllocError>
     requires fits { FitsPath line.now path.now }
     requires tanks { HasTanks line.now path.now }
     requires hoists { HasHoists line.now path.now }
     ensures period { IfOk result (λ s. s.period ≡ period) }
-    ensures ticks { IfOk result (λ s. s.ticks ≡ ticks.items) }
+    ensures ticks { IfOk result (λ s. s.ticks ≡ ticks) }
     ensures settles { IfOk result (λ s. Settles line.now path.now s) }
     ensures route { IfOk result (λ s. IsRoute line.now s.tanks) }
     ensures count { IfOk result (λ s. length s.hoists ≡ move_count line.now) }
@@ -106,10 +75,129 @@ fn solved_of(
     let tanks = route_of(alloc, line, path)?;
     Ok(Solved {
         period,
-        ticks: Ticks::from_vec(ticks),
+        ticks,
         hoists,
         tanks,
     })
+}
+
+// Where the climb of the path without its decisions on hoists at the end stands, if it is remembered and its period is
+// below the cap. It is looked for only where there are such decisions.
+fn find_climb(climbs: &mut Climbs, path: &[Decision], cap: u32) -> Option<usize>
+    requires few { (length climbs.old.kept.items ≤ 512) × (climbs.old.found ≤ 512) }
+    ensures same { (climbs.new.kept ≡ climbs.old.kept) × (climbs.new.next ≡ climbs.old.next) }
+    ensures found { climbs.new.found ≤ 512 }
+    ensures climb { IfSome result (λ k. (n : ℕ) × (n ≤ length path.now) × EndsInHoists path.now n × IsClimbOf (take n path.now) cap climbs.new k) }
+{
+    let count = without_hoists(path);
+    if count == path.len() {
+        return None;
+    }
+    climbs.find(&path[..count], cap)
+}
+
+// What comes of a path with this least feasible period, where the ticks there leave this first question.
+fn expand_least(
+    alloc: Global,
+    line: &Line,
+    path: &[Decision],
+    least: LeastPeriod,
+    question: Option<Question>,
+) -> Result<Expanded, AllocError>
+    requires fits { FitsPath line.now path.now }
+    requires reach { NoneStuck line.now path.now }
+    requires least { IsLeastPeriodOf line.now path.now least }
+    requires small { least.period ≤ 20000 }
+    requires first { IsFirstQuestion line.now path.now (tick_at least.ticks) least.period question }
+    ensures expansion { IfOk result (λ x. (cap : ℕ) → least.period < cap → IsExpansion line.now path.now cap x) }
+    ensures shows { IfOk result (λ x. (cap : ℕ) → least.period < cap → Shows line.now path.now cap x) }
+    ensures few { IfOk result HasShortWalks }
+{
+    let _inner = line.inner();
+    let LeastPeriod { period, low, ticks } = least;
+    match question {
+        Some(question) => Ok(Expanded::Split {
+            question,
+            children: child_count(line, path, question),
+            period,
+            low,
+        }),
+        None => {
+            let solved = solved_of(alloc, line, path, period, ticks)?;
+            Ok(Expanded::Solved { solved, low })
+        }
+    }
+}
+
+// What comes of a path whose least feasible period a climb found before.
+fn expand_again(
+    alloc: Global,
+    lookup: &Lookup,
+    line: &Line,
+    path: &[Decision],
+    least: &LeastPeriod,
+) -> Result<Expanded, AllocError>
+    requires lookup { IsLookupOf line.now lookup.now }
+    requires fits { FitsPath line.now path.now }
+    requires reach { NoneStuck line.now path.now }
+    requires least { IsLeastPeriodOf line.now path.now least.now }
+    requires small { least.now.period ≤ 20000 }
+    ensures expansion { IfOk result (λ x. (cap : ℕ) → least.now.period < cap → IsExpansion line.now path.now cap x) }
+    ensures shows { IfOk result (λ x. (cap : ℕ) → least.now.period < cap → Shows line.now path.now cap x) }
+    ensures few { IfOk result HasShortWalks }
+{
+    let ticks = least.ticks.as_slice();
+    let question = lookup.first_question(line, path, ticks, least.period);
+    let least = least.copied(alloc)?;
+    let expanded = expand_least(alloc, line, path, least, question)?;
+    Ok(expanded)
+}
+
+// Remembers the climb of a path that a question on a hoist splits.
+fn remember(
+    alloc: Global,
+    climbs: &mut Climbs,
+    path: &[Decision],
+    least: &LeastPeriod,
+    question: Option<Question>,
+) -> Result<(), AllocError>
+    requires next { climbs.old.next < 512 }
+    ensures { (l : LineData) → AreClimbs l climbs.old → IsLeastPeriodOf l path.now least.now → AreClimbs l climbs.new }
+{
+    match question {
+        Some(Question::Assign { .. }) => {
+            climbs.keep(alloc, path, least)?;
+            Ok(())
+        }
+        _ => Ok(()),
+    }
+}
+
+// What comes of a path with this least feasible period, which is remembered where a question on a hoist splits the path.
+fn expand_first(
+    alloc: Global,
+    lookup: &Lookup,
+    climbs: &mut Climbs,
+    line: &Line,
+    path: &[Decision],
+    least: LeastPeriod,
+) -> Result<Expanded, AllocError>
+    requires lookup { IsLookupOf line.now lookup.now }
+    requires climbs { AreClimbs line.now climbs.old }
+    requires fits { FitsPath line.now path.now }
+    requires reach { NoneStuck line.now path.now }
+    requires least { IsLeastPeriodOf line.now path.now least }
+    requires small { least.period ≤ 20000 }
+    ensures climbs { AreClimbs line.now climbs.new }
+    ensures expansion { IfOk result (λ x. (cap : ℕ) → least.period < cap → IsExpansion line.now path.now cap x) }
+    ensures shows { IfOk result (λ x. (cap : ℕ) → least.period < cap → Shows line.now path.now cap x) }
+    ensures few { IfOk result HasShortWalks }
+{
+    let ticks = least.ticks.as_slice();
+    let question = lookup.first_question(line, path, ticks, least.period);
+    remember(alloc, climbs, path, &least, question)?;
+    let expanded = expand_least(alloc, line, path, least, question)?;
+    Ok(expanded)
 }
 
 // What comes of a path that the system is at, where some hoist may reach every move.
@@ -117,43 +205,29 @@ fn expand_at(
     alloc: Global,
     room: &mut Room,
     lookup: &Lookup,
+    climbs: &mut Climbs,
     at: &PathSystem,
     line: &Line,
     path: &[Decision],
     cap: u32,
 ) -> Result<Expanded, AllocError>
     requires lookup { IsLookupOf line.now lookup.now }
+    requires climbs { AreClimbs line.now climbs.old }
     requires at { IsAt line.now path.now at.now }
     requires fits { FitsPath line.now path.now }
     requires reach { NoneStuck line.now path.now }
     requires cap { (2 ≤ cap) × (cap ≤ 20001) }
+    ensures climbs { AreClimbs line.now climbs.new }
     ensures expansion { IfOk result (λ x. IsExpansion line.now path.now cap x) }
     ensures shows { IfOk result (λ x. Shows line.now path.now cap x) }
     ensures few { IfOk result HasShortWalks }
 {
-    let _inner = line.inner();
-    match climb_in(alloc, room, &at.system, cap)? {
-        Climbed::Shut { low, high } => {
-            let low = proof_of(alloc, at, low)?;
-            let high = proof_of(alloc, at, high)?;
-            Ok(Expanded::Closed { low, high })
-        }
-        Climbed::Floor { period, low } => {
-            let Some(walk) = low else { unreachable!() };
-            let low = at.proof_of(alloc, &walk)?;
-            let ticks = ticks_at(alloc, room, at, line, path, period)?;
-            match lookup.first_question(line, path, ticks.as_slice(), period) {
-                Some(question) => Ok(Expanded::Split {
-                    question,
-                    children: child_count(line, path, question),
-                    period,
-                    low,
-                }),
-                None => {
-                    let solved = solved_of(alloc, line, path, period, ticks)?;
-                    Ok(Expanded::Solved { solved, low })
-                }
-            }
+    let climb = climb_at(alloc, room, at, line, path, cap)?;
+    match climb {
+        PathClimb::Shut { low, high } => Ok(Expanded::Closed { low, high }),
+        PathClimb::Least(least) => {
+            let expanded = expand_first(alloc, lookup, climbs, line, path, least)?;
+            Ok(expanded)
         }
     }
 }
@@ -167,6 +241,7 @@ impl Expander {
         let lookup = Lookup::new(alloc, line)?;
         let reach = Reach::of(line);
         let at = PathSystem::new(alloc, line, base)?;
+        let climbs = Climbs::new(alloc);
         let room = Room::new(alloc);
         let line = line.of_degree(alloc, line.degree())?;
         Ok(Expander {
@@ -174,6 +249,7 @@ impl Expander {
             lookup,
             reach,
             at,
+            climbs,
             room,
         })
     }
@@ -198,9 +274,46 @@ impl Expander {
         if let Some(m) = self.reach.first_stuck(line, path) {
             return Ok(Expanded::Stuck { m });
         }
+        let expanded = self.expand_reached(alloc, line, path, cap)?;
+        Ok(expanded)
+    }
+
+    // The expansion of a path where some hoist may reach every move: by a climb that is remembered, or else by one of
+    // its own.
+    fn expand_reached(
+        &mut self,
+        alloc: Global,
+        line: &Line,
+        path: &[Decision],
+        cap: u32,
+    ) -> Result<Expanded, AllocError>
+        requires line { self.old ≡ line.now }
+        requires fits { FitsPath line.now path.now }
+        requires reach { NoneStuck line.now path.now }
+        requires short { length path.now ≤ 20000 }
+        requires cap { (2 ≤ cap) × (cap ≤ 20001) }
+        ensures same { self.new ≡ self.old }
+        ensures expansion { IfOk result (λ x. IsExpansion line.now path.now cap x) }
+        ensures shows { IfOk result (λ x. Shows line.now path.now cap x) }
+        ensures few { IfOk result HasShortWalks }
+    {
+        let _inner = line.inner();
+        if let Some(k) = find_climb(&mut self.climbs, path, cap) {
+            let least = &self.climbs.kept[k].least;
+            let expanded = expand_again(alloc, &self.lookup, line, path, least)?;
+            return Ok(expanded);
+        }
         self.at.go_to(line, path)?;
-        let room = &mut self.room;
-        let expanded = expand_at(alloc, room, &self.lookup, &self.at, line, path, cap)?;
+        let expanded = expand_at(
+            alloc,
+            &mut self.room,
+            &self.lookup,
+            &mut self.climbs,
+            &self.at,
+            line,
+            path,
+            cap,
+        )?;
         Ok(expanded)
     }
 }

@@ -1,8 +1,10 @@
 //! The expansion of one path: its least feasible period, and the question that its ticks leave open there.
 #![tactic(auto)]
 
+mod climbs;
 mod expanded;
 mod expander;
+mod least_period;
 mod names;
 mod path_system;
 mod rides;

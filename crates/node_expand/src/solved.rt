@@ -1,7 +1,8 @@
 // What a path comes to where no question is left.
-ghost use Rattle.std.specs.Prelude.{◌≡◌};
+ghost use Rattle.std.specs.Prelude.{◌≡◌, IfOk};
 
 use hoist_base::Route;
+use std::alloc::{AllocError, Global};
 use std::marker::Model;
 
 /// The ticks of all moves, seen as a list by the numbers of the moves.
@@ -31,6 +32,14 @@ impl Ticks {
         ensures { result.now ≡ self.now }
     {
         self.numbers.as_slice()
+    }
+
+    /// The same ticks once more.
+    pub(crate) fn copied(&self, alloc: Global) -> Result<Ticks, AllocError>
+        ensures { IfOk result (λ copy. copy ≡ self.now) }
+    {
+        let numbers = Vec::from_slice(alloc, self.numbers.as_slice())?;
+        Ok(Ticks { numbers })
     }
 }
 

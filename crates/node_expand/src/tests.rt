@@ -1,5 +1,5 @@
 // Expansions of the worked lines.
-ghost use Rattle.std.specs.Prelude.{[], ◌∷◌, IfSome};
+ghost use Rattle.std.specs.Prelude.{◌≡◌, ◌≤◌, [], ◌∷◌, length, IfSome};
 ghost use Rattle.period_constraints.specs.Questions.{FitsPath};
 ghost use Rattle.node_expand.specs.Shown.{Shows};
 
@@ -238,5 +238,84 @@ fn slow_choice_root(rt: HostRuntime) -> Result<(), Fail> {
         Constraint::Visit { c: 0, k: 1 },
     ];
     assert!(rt; splits_in_two(&root, choose(1), 50, &walk));
+    Ok(())
+}
+
+// One bath between the ends of the hoists' reach: both hoists reach both moves.
+fn both_reach(alloc: Global) -> Option<Line> {
+    let numbers = Numbers {
+        track: 8,
+        gap: 2,
+        hoists: 2,
+        degree: 1,
+        max_period: 100,
+        load: 0,
+        unload: 0,
+    };
+    let station = Row {
+        tanks: &[0],
+        min: 0,
+        max: None,
+        lift: 1,
+        lower: 0,
+    };
+    let bath = Row {
+        tanks: &[1],
+        min: 3,
+        lower: 1,
+        ..station
+    };
+    let end = Row {
+        tanks: &[2],
+        lift: 0,
+        lower: 1,
+        ..station
+    };
+    let tanks = [("load", 2), ("bath", 4), ("out", 6)];
+    line_of_rows(alloc, numbers, &tanks, &[station, bath, end])
+}
+
+// Whether an expander that expanded other paths gives what a new one gives.
+fn agrees(
+    alloc: Global,
+    expander: &mut Expander,
+    line: &Line,
+    path: &[Decision],
+    cap: u32,
+) -> Result<bool, AllocError>
+    requires line { expander.old ≡ line.now }
+    requires fits { FitsPath line.now path.now }
+    requires short { length path.now ≤ 20000 }
+    requires cap { (2 ≤ cap) × (cap ≤ 20001) }
+    ensures { expander.new ≡ expander.old }
+{
+    let old = expander.expand(alloc, line, path, cap)?;
+    let new = expand(alloc, line, path, cap)?;
+    let same = format!(in alloc; "{old:?}")? == format!(in alloc; "{new:?}")?;
+    Ok(same)
+}
+
+// A question on a hoist splits the root at period 6. Its children come out as without the root's climb, under caps above
+// that period, at it and below it.
+#[test]
+fn children_of_hoists(rt: HostRuntime) -> Result<(), Fail> {
+    let alloc = rt.alloc();
+    let line = both_reach(alloc).ok_or("no line")?;
+    let base = base_of(alloc, &line)?;
+    let back = Constraint::Repeat { c: 0, k: 0 };
+    let m = MoveId {
+        carrier: 0,
+        step: 0,
+    };
+    let mut expander = Expander::new(alloc, &line, &base)?;
+    let root = expander.expand(alloc, &line, &[], 101)?;
+    assert!(rt; splits_in_two(&root, Question::Assign { m }, 6, &[back]));
+    let low = [decision_of(&line, &root, 0).ok_or("no child")?];
+    let high = [decision_of(&line, &root, 1).ok_or("no child")?];
+    assert!(rt; agrees(alloc, &mut expander, &line, &low, 101)?);
+    assert!(rt; agrees(alloc, &mut expander, &line, &low, 7)?);
+    assert!(rt; agrees(alloc, &mut expander, &line, &low, 6)?);
+    assert!(rt; agrees(alloc, &mut expander, &line, &high, 5)?);
+    assert!(rt; agrees(alloc, &mut expander, &line, &high, 101)?);
     Ok(())
 }

@@ -1,10 +1,11 @@
-use Rattle.std.proofs.Common.{◌≡◌, ℕ, arith, sym, subst, ap, ◌<◌}
+use Rattle.std.proofs.Common.{◌≡◌, ℕ, ℤ, List, arith, sym, subst, ap, ◌<◌}
 use Rattle.longest_path.specs.System.{SystemData, IsReached, IsLeastSolution, HasNoSolution}
 use Rattle.longest_path.specs.Answer.{IsLeastAnswer}
 use Rattle.longest_path.specs.declared.least_ticks.LeastTicks.{LeastTicks}
 use Rattle.period_constraints.specs.Places.{system_below}
+use Rattle.period_constraints.specs.Ticks.{AreTicks}
 use Rattle.node_expand.proofs.FloorLemmas.{all_reached, are_ticks}
-use Rattle.node_expand.proofs.expander.ticks_at.Goals as goal
+use Rattle.node_expand.proofs.least_period.ticks_at.Goals as goal
 
 pub least_in-requires-clause-reached : goal.least_in-requires-clause-reached
 least_in-requires-clause-reached c i lt =
@@ -30,4 +31,5 @@ returns-clause-ticks c =
     let P : SystemData → Type 0 = λ s. IsLeastAnswer s c.args.period c.in_ok-ticks.field-0 in
     let Q : LeastTicks → Type 0 = λ x. IsLeastAnswer (system_below l path) c.args.period x in
     let least = subst Q c.in-Feasible.is (subst P c.requires.at.system c.in_ok-ticks.ensures.least) in
-    are_ticks l path c.in-Feasible.ticks.items c.args.period c.inner-inner.ensures.valid least.solves c.requires.period.1 least.at_start least.count
+    let R : List ℤ → Type 0 = λ ts. AreTicks l ts in
+    subst R (sym c.from_vec.ensures) (are_ticks l path c.in-Feasible.ticks.items c.args.period c.inner-inner.ensures.valid least.solves c.requires.period.1 least.at_start least.count)
