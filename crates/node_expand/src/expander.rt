@@ -132,16 +132,17 @@ fn expand_least(
 // What comes of a path whose least feasible period a climb found before.
 fn expand_again(
     alloc: Global,
-    lookup: &Lookup,
+    lookup: &mut Lookup,
     line: &Line,
     path: &[Decision],
     least: &LeastPeriod,
 ) -> Result<Expanded, AllocError>
-    requires lookup { IsLookupOf line.now lookup.now }
+    requires lookup { IsLookupOf line.now lookup.old }
     requires fits { FitsPath line.now path.now }
     requires reach { NoneStuck line.now path.now }
     requires least { IsLeastPeriodOf line.now path.now least.now }
     requires small { least.now.period ≤ 20000 }
+    ensures lookup { lookup.new ≡ lookup.old }
     ensures expansion { IfOk result (λ x. (cap : ℕ) → least.now.period < cap → IsExpansion line.now path.now cap x) }
     ensures shows { IfOk result (λ x. (cap : ℕ) → least.now.period < cap → Shows line.now path.now cap x) }
     ensures few { IfOk result HasShortWalks }
@@ -176,18 +177,19 @@ fn remember(
 // What comes of a path with this least feasible period, which is remembered where a question on a hoist splits the path.
 fn expand_first(
     alloc: Global,
-    lookup: &Lookup,
+    lookup: &mut Lookup,
     climbs: &mut Climbs,
     line: &Line,
     path: &[Decision],
     least: LeastPeriod,
 ) -> Result<Expanded, AllocError>
-    requires lookup { IsLookupOf line.now lookup.now }
+    requires lookup { IsLookupOf line.now lookup.old }
     requires climbs { AreClimbs line.now climbs.old }
     requires fits { FitsPath line.now path.now }
     requires reach { NoneStuck line.now path.now }
     requires least { IsLeastPeriodOf line.now path.now least }
     requires small { least.period ≤ 20000 }
+    ensures lookup { lookup.new ≡ lookup.old }
     ensures climbs { AreClimbs line.now climbs.new }
     ensures expansion { IfOk result (λ x. (cap : ℕ) → least.period < cap → IsExpansion line.now path.now cap x) }
     ensures shows { IfOk result (λ x. (cap : ℕ) → least.period < cap → Shows line.now path.now cap x) }
@@ -204,19 +206,20 @@ fn expand_first(
 fn expand_at(
     alloc: Global,
     room: &mut Room,
-    lookup: &Lookup,
+    lookup: &mut Lookup,
     climbs: &mut Climbs,
     at: &PathSystem,
     line: &Line,
     path: &[Decision],
     cap: u32,
 ) -> Result<Expanded, AllocError>
-    requires lookup { IsLookupOf line.now lookup.now }
+    requires lookup { IsLookupOf line.now lookup.old }
     requires climbs { AreClimbs line.now climbs.old }
     requires at { IsAt line.now path.now at.now }
     requires fits { FitsPath line.now path.now }
     requires reach { NoneStuck line.now path.now }
     requires cap { (2 ≤ cap) × (cap ≤ 20001) }
+    ensures lookup { lookup.new ≡ lookup.old }
     ensures climbs { AreClimbs line.now climbs.new }
     ensures expansion { IfOk result (λ x. IsExpansion line.now path.now cap x) }
     ensures shows { IfOk result (λ x. Shows line.now path.now cap x) }
@@ -300,14 +303,14 @@ impl Expander {
         let _inner = line.inner();
         if let Some(k) = find_climb(&mut self.climbs, path, cap) {
             let least = &self.climbs.kept[k].least;
-            let expanded = expand_again(alloc, &self.lookup, line, path, least)?;
+            let expanded = expand_again(alloc, &mut self.lookup, line, path, least)?;
             return Ok(expanded);
         }
         self.at.go_to(line, path)?;
         let expanded = expand_at(
             alloc,
             &mut self.room,
-            &self.lookup,
+            &mut self.lookup,
             &mut self.climbs,
             &self.at,
             line,

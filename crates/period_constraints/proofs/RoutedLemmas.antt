@@ -1,9 +1,7 @@
 -- What is asked below a path, from the tanks and the hoists that it settles.
-use Rattle.std.proofs.Common.{⊎_elim, ◌≡◌, ◌≢◌, ℕ, zero, suc, ◌+◌, ◌-◌, ◌*◌, ◌/◌, ◌%◌, ◌<◌, ◌≤◌, List, [], ◌∷◌, length, get_or, take, refl, sym, ◌∙◌, ap, subst, arith, pos, ℤ, Some, None, Bool, true, cond, eq-eqb}
+use Rattle.std.proofs.Common.{⊎_elim, ◌≡◌, ◌≢◌, ℕ, ◌+◌, ◌-◌, ◌*◌, ◌/◌, ◌%◌, ◌<◌, ◌≤◌, List, [], ◌∷◌, length, get_or, refl, sym, ◌∙◌, ap, subst, arith, pos, ℤ, Some, None, Bool, true, cond, eq-eqb}
 use Rattle.std.specs.Prelude.{Option, IsSome, IsSomeAnd, unwrap_or, option_and_then, option_map, ◌<ℤ◌, ◌-ℤ◌, neg_ℤ, ◌==◌, if◌then◌else◌}
 use Rattle.std.proofs.lemmas.Int.{ints}
-use Rattle.std.proofs.Math.ListN.{replicate, length-replicate}
-use Rattle.std.proofs.lemmas.List.{get_or-replicate, get_or_past}
 use Rattle.std.proofs.lemmas.Bool.{cases_lt}
 use Rattle.std.proofs.lemmas.Nat.{mul-le, div-add-mod', mod_below, div-mul-add, mod-mul-add}
 use Rattle.hoist_base.specs.LineData.{LineData, stage, last_stage, last_step, move_number, move_count, IsMove, IsVisit}
@@ -239,24 +237,6 @@ pub tanks_asked : (l : LineData) (path : List Decision) (tanks : List ℕ) (s : 
 tanks_asked l path tanks s period o line h first =
     pair_same (HoldOneTank l tanks s period) (IsAskedTank l path s period) o (λ i j q x. to_asked_tank l path tanks s period i j q line h x)
     (λ i j q x. from_asked_tank l path tanks s period i j q line h x) first
-
--- ---- nothing is noted yet
-
-get_take : (xs : List (Option ℕ)) (n i : ℕ) → ((j : ℕ) → get_or xs j None ≡ None) → get_or (take n xs) i None ≡ None
-get_take [] zero i none = refl
-get_take [] (suc n) i none = refl
-get_take (x ∷ xs) zero i none = refl
-get_take (x ∷ xs) (suc n) zero none = none 0
-get_take (x ∷ xs) (suc n) (suc i) none = get_take xs n i (λ j. none (suc j))
-
-abbrev unmarked : Option ℕ
-unmarked = None
-
-get_blank : (m j : ℕ) → get_or (replicate m unmarked) j unmarked ≡ unmarked
-get_blank m j = ⊎_elim (λ lt. get_or-replicate m j unmarked unmarked lt) (λ le. get_or_past (replicate m unmarked) j unmarked (omega (arith, le, length-replicate m unmarked))) (cases_lt j m)
-
-pub blank : (m n i : ℕ) → get_or (take n (replicate m unmarked)) i unmarked ≡ unmarked
-blank m n i = get_take (replicate m unmarked) n i (λ j. get_blank m j)
 
 -- ---- rides
 

@@ -6,6 +6,7 @@ ghost use Rattle.period_constraints.specs.Questions.{FitsPath};
 ghost use Rattle.period_constraints.specs.Order.{IsFirstQuestion};
 ghost use Rattle.period_constraints.specs.Hoists.{hoists_reaching};
 ghost use Rattle.period_constraints.specs.Pairs.{IsFirstNumber, IsFirstPair};
+ghost use Rattle.period_constraints.specs.Pairs as pairs;
 ghost use Rattle.period_constraints.specs.Stays.{AreRouted, AreNear};
 ghost use Rattle.period_constraints.specs.Stays as stays;
 ghost use Rattle.period_constraints.specs.Starts.{IsTable};
@@ -21,27 +22,28 @@ use crate::stays::{Stay, first_shared, motion_by, write_stays};
 use choice_tree::{Decision, Question};
 use hoist_base::{Line, MoveId};
 
-// The first two visits that hold one tank at one tick.
-fn first_tank_pair(line: &Line, tanks: &[u32], ticks: &[i64], period: u32) -> Option<Pair>
+// The first two visits that hold one tank at one tick; their stays are written into their places.
+fn first_tank_pair(
+    line: &Line,
+    tanks: &[u32],
+    ticks: &[i64],
+    period: u32,
+    stays: &mut [Stay],
+) -> Option<Pair>
     requires tanks { AreRouted line.now tanks.now }
     requires ticks { AreTicks line.now ticks.now }
     requires near { AreNear line.now (tick_at ticks.now) }
     requires period { (1 ≤ period) × (period ≤ 20001) }
+    requires room { length stays.old ≡ pairs.visit_count line.now }
     ensures first { IsFirstPair (HoldOneTank line.now tanks.now (tick_at ticks.now) period) result }
     ensures small { IfSome result (λ x. unsigned_abs x.shift ≤ 1000000000) }
 {
-    let none = Stay {
-        tank: 0,
-        begin: 0,
-        end: 0,
-    };
-    let mut room = [none; 128];
-    let stays = &mut room[..visit_count(line) as usize];
+    let _count = visit_count(line);
     write_stays(line, tanks, ticks, stays);
     first_shared(stays, period)
 }
 
-// The first two moves that clash.
+// The first two moves that clash; their starts are written into their places.
 fn first_hoist_pair(
     line: &Line,
     table: Table,
@@ -49,6 +51,7 @@ fn first_hoist_pair(
     assigned: &[Option<u32>],
     ticks: &[i64],
     period: u32,
+    starts: &mut [Start],
 ) -> Option<Pair>
     requires table { IsTable line.now table.rides.now table.spans.now }
     requires tanks { AreRouted line.now tanks.now }
@@ -56,16 +59,11 @@ fn first_hoist_pair(
     requires ticks { AreTicks line.now ticks.now }
     requires near { AreNear line.now (tick_at ticks.now) }
     requires period { (1 ≤ period) × (period ≤ 20001) }
+    requires room { length starts.old ≡ move_count line.now }
     ensures first { IsFirstPair (ClashByRides line.now tanks.now assigned.now (tick_at ticks.now) period) result }
     ensures small { IfSome result (λ x. unsigned_abs x.shift ≤ 1000000000) }
 {
-    let none = Start {
-        ride: None,
-        number: None,
-        tick: 0,
-    };
-    let mut room = [none; 124];
-    let starts = &mut room[..count_of_moves(line) as usize];
+    let _count = count_of_moves(line);
     write_starts(line, table, tanks, assigned, ticks, starts);
     first_meeting(line, table, starts, period)
 }
@@ -99,47 +97,53 @@ fn first_unassigned(line: &Line, tanks: &[u32], assigned: &[Option<u32>]) -> Opt
 }
 
 /// The first question that is to be asked below the path; the clashes are those of the table where it has the rides.
+///
+/// The last five are room: a place for each visit or each move. It doesn't matter what stands in it.
 pub(crate) fn ask(
     line: &Line,
     table: Table,
     path: &[Decision],
     ticks: &[i64],
     period: u32,
+    choices: &mut [Option<u32>],
+    assigned: &mut [Option<u32>],
+    tanks: &mut [u32],
+    stays: &mut [Stay],
+    starts: &mut [Start],
 ) -> Option<Question>
     requires table { IsTable line.now table.rides.now table.spans.now }
     requires fits { FitsPath line.now path.now }
     requires period { (1 ≤ period) × (period ≤ 20001) }
     requires ticks { AreTicks line.now ticks.now }
     requires solves { Solves (system_below line.now path.now) period (tick_at ticks.now) }
+    requires marks { (length choices.old ≡ pairs.visit_count line.now) × (length assigned.old ≡ move_count line.now) }
+    requires tanks { length tanks.old ≡ pairs.visit_count line.now }
+    requires room { (length stays.old ≡ pairs.visit_count line.now) × (length starts.old ≡ move_count line.now) }
     ensures first { IsFirstQuestion line.now path.now (tick_at ticks.now) period result }
 {
-    let mut choice_room = [None; 128];
-    let mut assigned_room = [None; 124];
-    let choices = &mut choice_room[..visit_count(line) as usize];
-    let assigned = &mut assigned_room[..count_of_moves(line) as usize];
+    let _inner = line.inner();
     mark(line, path, choices, assigned);
     if let Some(number) = first_open_visit(line, choices) {
         return Some(Question::Choose {
             v: visit_at(line, number),
         });
     }
-    let mut tanks = [0; 128];
-    write_tanks(line, choices, &mut tanks);
-    if let Some(pair) = first_tank_pair(line, &tanks, ticks, period) {
+    write_tanks(line, choices, tanks);
+    if let Some(pair) = first_tank_pair(line, tanks, ticks, period, stays) {
         return Some(Question::TankOrder {
             a: visit_at(line, pair.first),
             b: visit_at(line, pair.second),
             q: pair.shift,
         });
     }
-    if let Some(pair) = first_hoist_pair(line, table, &tanks, assigned, ticks, period) {
+    if let Some(pair) = first_hoist_pair(line, table, tanks, assigned, ticks, period, starts) {
         return Some(Question::HoistOrder {
             a: move_at(line, pair.first),
             b: move_at(line, pair.second),
             q: pair.shift,
         });
     }
-    if let Some(number) = first_unassigned(line, &tanks, assigned) {
+    if let Some(number) = first_unassigned(line, tanks, assigned) {
         return Some(Question::Assign {
             m: move_at(line, number),
         });
@@ -169,5 +173,23 @@ pub fn first_question(
         firsts: &[],
         spans: &[],
     };
-    ask(line, table, path, ticks, period)
+    let visits = visit_count(line) as usize;
+    let moves = count_of_moves(line) as usize;
+    let mut choices = [None; 128];
+    let mut assigned = [None; 124];
+    let mut tanks = [0; 128];
+    let mut stays = [Stay::NONE; 128];
+    let mut starts = [Start::NONE; 124];
+    ask(
+        line,
+        table,
+        path,
+        ticks,
+        period,
+        &mut choices[..visits],
+        &mut assigned[..moves],
+        &mut tanks[..visits],
+        &mut stays[..visits],
+        &mut starts[..moves],
+    )
 }

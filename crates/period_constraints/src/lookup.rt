@@ -11,8 +11,10 @@ ghost use Rattle.period_constraints.specs.Ticks.{AreTicks, tick_at};
 ghost use Rattle.period_constraints.specs.Lookups.{AreRides, AreSpans, IsLookupOf};
 
 use crate::asking::ask;
+use crate::pairs::{move_count as count_of_moves, visit_count};
 use crate::rides::Ride;
-use crate::starts::Table;
+use crate::starts::{Start, Table};
+use crate::stays::Stay;
 use crate::times::motion_between;
 use choice_tree::{Decision, Question};
 use collision_pairs::{Span, clash};
@@ -23,20 +25,29 @@ use std::marker::Model;
 
 /// The rides of a line's steps and the clash of each with each, reckoned once.
 ///
-/// It holds at most 256 rides; the clashes of others are reckoned where they are asked for.
+/// It holds at most 256 rides; the clashes of others are reckoned where they are asked for. It has room for what a question
+/// is sought by, a place for each visit or each move of the line: what stands there means nothing between two calls.
 #[derive(Drop)]
 pub struct Lookup {
     rides: Vec<Ride>,
     firsts: Vec<u32>,
     spans: Vec<Option<Span>>,
+    choices: Vec<Option<u32>>,
+    assigned: Vec<Option<u32>>,
+    tanks: Vec<u32>,
+    stays: Vec<Stay>,
+    starts: Vec<Start>,
 }
 
 impl Model for Lookup {
-    ghost use Rattle.period_constraints.specs.Lookups.{LookupData};
+    ghost use Rattle.std.specs.Prelude.{length};
+    ghost use Rattle.period_constraints.specs.Lookups.{LookupData, HasRoom};
 
     ghost Value = { LookupData };
 
-    ghost view = { λ a. record { rides = a.rides.items; spans = a.spans.items } };
+    ghost view = { λ a. record { rides = a.rides.items; spans = a.spans.items; visits = length a.choices.items; moves = length a.assigned.items } };
+
+    ghost invariant = { λ a. HasRoom (length a.choices.items) (length a.assigned.items) (length a.tanks.items) (length a.stays.items) (length a.starts.items) };
 }
 
 // Adds the rides of a motion: one for each hoist that reaches it, the lowest first, as far as there is room.
@@ -107,26 +118,39 @@ impl Lookup {
         }
         let mut spans = Vec::new(alloc);
         push_spans(&mut spans, line, rides.as_slice())?;
+        let visits = visit_count(line) as usize;
+        let moves = count_of_moves(line) as usize;
+        let choices = vec![in alloc; None; visits]?;
+        let assigned = vec![in alloc; None; moves]?;
+        let tanks = vec![in alloc; 0; visits]?;
+        let stays = vec![in alloc; Stay::NONE; visits]?;
+        let starts = vec![in alloc; Start::NONE; moves]?;
         Ok(Lookup {
             rides,
             firsts,
             spans,
+            choices,
+            assigned,
+            tanks,
+            stays,
+            starts,
         })
     }
 
     /// The first question that is to be asked below the path, as `first_question` answers it. It takes no memory.
     pub fn first_question(
-        &self,
+        &mut self,
         line: &Line,
         path: &[Decision],
         ticks: &[i64],
         period: u32,
     ) -> Option<Question>
-        requires line { IsLookupOf line.now self.now }
+        requires line { IsLookupOf line.now self.old }
         requires fits { FitsPath line.now path.now }
         requires period { (1 ≤ period) × (period ≤ 20001) }
         requires ticks { AreTicks line.now ticks.now }
         requires solves { Solves (system_below line.now path.now) period (tick_at ticks.now) }
+        ensures same { self.new ≡ self.old }
         ensures first { IsFirstQuestion line.now path.now (tick_at ticks.now) period result }
     {
         let table = Table {
@@ -134,6 +158,17 @@ impl Lookup {
             firsts: self.firsts.as_slice(),
             spans: self.spans.as_slice(),
         };
-        ask(line, table, path, ticks, period)
+        ask(
+            line,
+            table,
+            path,
+            ticks,
+            period,
+            &mut self.choices[..],
+            &mut self.assigned[..],
+            &mut self.tanks[..],
+            &mut self.stays[..],
+            &mut self.starts[..],
+        )
     }
 }

@@ -20,7 +20,7 @@ pub(crate) fn visit_number(line: &Line, visit: VisitId) -> u32
 }
 
 /// Notes which tank of its stage each visit has by its Choose, and which hoist of those that reach it each move has by
-/// its Assign.
+/// its Assign, or None.
 pub(crate) fn mark(
     line: &Line,
     path: &[Decision],
@@ -29,10 +29,11 @@ pub(crate) fn mark(
 )
     requires fits { FitsPath line.now path.now }
     requires room { (visit_count line.now ≤ length choices.old) × (move_count line.now ≤ length assigned.old) }
-    requires blank { ((i : ℕ) → get_or choices.old i None ≡ None) × ((i : ℕ) → get_or assigned.old i None ≡ None) }
     ensures choices { AreChoices line.now path.now choices.new }
     ensures assigned { AreAssigned line.now path.now assigned.new }
 {
+    choices.fill(None);
+    assigned.fill(None);
     for decision in path {
         match decision.question {
             Question::Choose { v } => {

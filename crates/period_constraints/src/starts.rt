@@ -24,6 +24,15 @@ pub(crate) struct Start {
     pub(crate) tick: i32,
 }
 
+impl Start {
+    /// What a place holds before a start is written into it.
+    pub(crate) const NONE: Start = Start {
+        ride: None,
+        number: None,
+        tick: 0,
+    };
+}
+
 /// Rides by step, with the number of the first of each step, and the clash of each ride with each, row by row.
 #[derive(Clone, Copy)]
 pub(crate) struct Table<'a> {

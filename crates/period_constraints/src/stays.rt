@@ -26,6 +26,15 @@ pub(crate) struct Stay {
     pub(crate) end: i32,
 }
 
+impl Stay {
+    /// What a place holds before a stay is written into it.
+    pub(crate) const NONE: Stay = Stay {
+        tank: 0,
+        begin: 0,
+        end: 0,
+    };
+}
+
 /// The motion of a move between the tanks of its two visits.
 pub(crate) fn motion_by(line: &Line, tanks: &[u32], m: MoveId) -> Motion
     requires there { IsMove line.now m.carrier m.step }

@@ -231,7 +231,7 @@ fn asked(
     period: u32,
 ) -> Result<Option<(Option<Question>, Option<Question>)>, Fail> {
     let s = base_of(alloc, line)?;
-    let lookup = Lookup::new(alloc, line)?;
+    let mut lookup = Lookup::new(alloc, line)?;
     if period == 0 || period > 20_001 || !are_ticks(line, ticks) {
         return Ok(None);
     }

@@ -4,11 +4,8 @@ use mir.Val.{to_z, of_z}
 use mir.Syntax.{w64}
 use Rattle.period_constraints.specs.Ticks.{tick_at}
 use Rattle.period_constraints.proofs.AskLemmas.{first_choice, first_tank_order, first_hoist_order, first_assign, no_question}
-use Rattle.period_constraints.proofs.RoutedLemmas.{all_near, blank, have_tanks, routed, settled, visits_asked, tanks_asked, hoists_asked, moves_asked}
+use Rattle.period_constraints.proofs.RoutedLemmas.{all_near, have_tanks, routed, settled, visits_asked, tanks_asked, hoists_asked, moves_asked}
 use Rattle.period_constraints.proofs.asking.ask.Goals as goal
-
-pub mark-requires-clause-blank : goal.mark-requires-clause-blank
-mark-requires-clause-blank c = (λ i. blank 128 _ i, λ i. blank 124 _ i)
 
 pub returns-in-Some : goal.returns-in-Some
 returns-in-Some c =
@@ -17,21 +14,21 @@ returns-in-Some c =
     record {
       first =
           first_choice l path (tick_at c.args.ticks.now) c.args.period c.in-Some.number c.visit_at.result c.visit_at.ensures.value
-          (visits_asked l path c.mark.new.choices (Some c.in-Some.number) c.visit_count.ensures.valid c.mark.ensures.choices c.in-Some.ensures);
+          (visits_asked l path c.mark.new.choices (Some c.in-Some.number) c.inner-inner.ensures.valid c.mark.ensures.choices c.in-Some.ensures);
     }
 
 pub write_tanks-requires-clause-choices : goal.write_tanks-requires-clause-choices
-write_tanks-requires-clause-choices c = have_tanks c.args.line.now c.args.path.now c.mark.new.choices c.visit_count.ensures.valid c.requires.fits c.mark.ensures.choices
+write_tanks-requires-clause-choices c = have_tanks c.args.line.now c.args.path.now c.mark.new.choices c.inner-inner.ensures.valid c.requires.fits c.mark.ensures.choices
 
 pub first_tank_pair-requires-clause-tanks : goal.first_tank_pair-requires-clause-tanks
 first_tank_pair-requires-clause-tanks c =
     let l = c.args.line.now in
-    let line = c.visit_count.ensures.valid in
+    let line = c.inner-inner.ensures.valid in
     routed l c.mark.new.choices c.write_tanks.new.tanks line (have_tanks l c.args.path.now c.mark.new.choices line c.requires.fits c.mark.ensures.choices) c.write_tanks.ensures
 
 pub first_tank_pair-requires-clause-near : goal.first_tank_pair-requires-clause-near
 first_tank_pair-requires-clause-near c =
-    all_near c.args.line.now c.args.path.now (tick_at c.args.ticks.now) c.args.period c.visit_count.ensures.valid c.requires.solves c.requires.period.1
+    all_near c.args.line.now c.args.path.now (tick_at c.args.ticks.now) c.args.period c.inner-inner.ensures.valid c.requires.solves c.requires.period.1
 
 pub returns-in-Some-first_tank_pair : goal.returns-in-Some-first_tank_pair
 returns-in-Some-first_tank_pair c =
@@ -39,7 +36,7 @@ returns-in-Some-first_tank_pair c =
     let path = c.args.path.now in
     let s = tick_at c.args.ticks.now in
     let t = c.args.period in
-    let line = c.visit_count.ensures.valid in
+    let line = c.inner-inner.ensures.valid in
     let choices = c.mark.new.choices in
     let tanks = c.write_tanks.new.tanks in
     let x = c.in-Some-first_tank_pair in
@@ -55,12 +52,12 @@ returns-in-Some-first_tank_pair c =
 pub first_hoist_pair-requires-clause-tanks : goal.first_hoist_pair-requires-clause-tanks
 first_hoist_pair-requires-clause-tanks c =
     let l = c.args.line.now in
-    let line = c.visit_count.ensures.valid in
+    let line = c.inner-inner.ensures.valid in
     routed l c.mark.new.choices c.write_tanks.new.tanks line (have_tanks l c.args.path.now c.mark.new.choices line c.requires.fits c.mark.ensures.choices) c.write_tanks.ensures
 
 pub first_hoist_pair-requires-clause-near : goal.first_hoist_pair-requires-clause-near
 first_hoist_pair-requires-clause-near c =
-    all_near c.args.line.now c.args.path.now (tick_at c.args.ticks.now) c.args.period c.visit_count.ensures.valid c.requires.solves c.requires.period.1
+    all_near c.args.line.now c.args.path.now (tick_at c.args.ticks.now) c.args.period c.inner-inner.ensures.valid c.requires.solves c.requires.period.1
 
 pub returns-in-Some-first_hoist_pair : goal.returns-in-Some-first_hoist_pair
 returns-in-Some-first_hoist_pair c =
@@ -68,7 +65,7 @@ returns-in-Some-first_hoist_pair c =
     let path = c.args.path.now in
     let s = tick_at c.args.ticks.now in
     let t = c.args.period in
-    let line = c.visit_count.ensures.valid in
+    let line = c.inner-inner.ensures.valid in
     let choices = c.mark.new.choices in
     let tanks = c.write_tanks.new.tanks in
     let x = c.in-Some-first_hoist_pair in
@@ -86,7 +83,7 @@ returns-in-Some-first_hoist_pair c =
 pub first_unassigned-requires-clause-tanks : goal.first_unassigned-requires-clause-tanks
 first_unassigned-requires-clause-tanks c =
     let l = c.args.line.now in
-    let line = c.visit_count.ensures.valid in
+    let line = c.inner-inner.ensures.valid in
     routed l c.mark.new.choices c.write_tanks.new.tanks line (have_tanks l c.args.path.now c.mark.new.choices line c.requires.fits c.mark.ensures.choices) c.write_tanks.ensures
 
 pub returns-in-Some-first_unassigned : goal.returns-in-Some-first_unassigned
@@ -95,7 +92,7 @@ returns-in-Some-first_unassigned c =
     let path = c.args.path.now in
     let s = tick_at c.args.ticks.now in
     let t = c.args.period in
-    let line = c.visit_count.ensures.valid in
+    let line = c.inner-inner.ensures.valid in
     let choices = c.mark.new.choices in
     let tanks = c.write_tanks.new.tanks in
     let x = c.in-Some-first_unassigned in
@@ -115,7 +112,7 @@ returns c =
     let path = c.args.path.now in
     let s = tick_at c.args.ticks.now in
     let t = c.args.period in
-    let line = c.visit_count.ensures.valid in
+    let line = c.inner-inner.ensures.valid in
     let choices = c.mark.new.choices in
     let tanks = c.write_tanks.new.tanks in
     let known = settled l path choices tanks line c.mark.ensures.choices c.write_tanks.ensures c.in_default.ensures in
