@@ -38,7 +38,7 @@ pub(crate) fn move_count(line: &Line) -> u32
     line.degree() * (line.inner() + 1)
 }
 
-/// The visit with a number.
+/// The visit with a number; for the first carrier it is found without a division.
 pub(crate) fn visit_at(line: &Line, number: u32) -> VisitId
     requires { number < pairs.visit_count line.now }
     ensures value { result ≡ pairs.visit_at line.now number }
@@ -46,13 +46,19 @@ pub(crate) fn visit_at(line: &Line, number: u32) -> VisitId
     ensures valid { IsLine line.now }
 {
     let stages = line.inner() + 2;
+    if number < stages {
+        return VisitId {
+            carrier: 0,
+            stage: number,
+        };
+    }
     VisitId {
         carrier: number / stages,
         stage: number % stages,
     }
 }
 
-/// The move with a number.
+/// The move with a number; for the first carrier it is found without a division.
 pub(crate) fn move_at(line: &Line, number: u32) -> MoveId
     requires { number < move_count line.now }
     ensures value { result ≡ pairs.move_at line.now number }
@@ -60,6 +66,12 @@ pub(crate) fn move_at(line: &Line, number: u32) -> MoveId
     ensures valid { IsLine line.now }
 {
     let steps = line.inner() + 1;
+    if number < steps {
+        return MoveId {
+            carrier: 0,
+            step: number,
+        };
+    }
     MoveId {
         carrier: number / steps,
         step: number % steps,
