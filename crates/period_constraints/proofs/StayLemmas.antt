@@ -1,5 +1,5 @@
 -- Stays and starts, one for each visit or move.
-use Rattle.std.proofs.Common.{⊎_elim, ◌≡◌, ℕ, ◌+◌, ◌/◌, ◌%◌, ◌<◌, List, length, get_or, sym, ◌∙◌, ap, subst, arith, ℤ, Some, None, set, get_or-set_other}
+use Rattle.std.proofs.Common.{⊎_elim, ◌≡◌, ℕ, ◌+◌, ◌/◌, ◌%◌, ◌<◌, List, length, get_or, sym, ap, subst, arith, ℤ, Some, None, set, get_or-set_other}
 use Rattle.std.proofs.lemmas.Int.{ints}
 use Rattle.std.proofs.lemmas.Bool.{cases_order}
 use Rattle.std.proofs.lemmas.List.{get_or-set_same}
@@ -9,10 +9,11 @@ use Rattle.hoist_base.specs.LineData.{LineData, last_stage, move_number}
 use Rattle.collision_pairs.specs.declared.span.Span.{Span}
 use Rattle.period_constraints.specs.Hoists.{Ride}
 use Rattle.period_constraints.specs.Questions.{offset_of}
-use Rattle.period_constraints.specs.Pairs.{Pair, move_at, IsFirstNumber, IsFirstPair, IsBetween}
-use Rattle.period_constraints.specs.Stays.{Stay, AreStays, AreSharing}
+use Rattle.period_constraints.specs.Pairs.{Pair, visit_count, move_at, IsFirstNumber, IsFirstShift, IsFirstPair, IsBetween}
+use Rattle.period_constraints.specs.Stays.{Stay, IsStay}
 use Rattle.period_constraints.specs.Starts.{Start, start, clash_rides, ride_by, AreMeeting, AreStarts}
 use Rattle.period_constraints.specs.Routed.{HoldOneTank, ClashByRides}
+use Rattle.period_constraints.proofs.PairLemmas.{shift_same}
 
 -- one element more is written
 pub write_more : {A : Type 0} (P : ℕ → A → Type 0) (xs : List A) (i : ℕ) (v d : A) → i < length xs → ((j : ℕ) → j < i → P j (get_or xs j d)) → P i v
@@ -43,34 +44,19 @@ number_same P Q (Some n) to from first = (to n first.0, λ i lt h. first.1 i lt 
 
 -- ---- visits
 
-to_tanks : (l : LineData) (tanks : List ℕ) (s : ℕ → ℤ) (xs : List Stay) (period i j : ℕ) (q : ℤ) → AreStays l tanks s xs → AreSharing xs period i j q → HoldOneTank l tanks s period i j q
-to_tanks l tanks s xs period i j q h share =
-    let a = h.each i (omega (arith, share.before, share.there, h.count)) in
-    let b = h.each j (omega (arith, share.there, h.count)) in
-    let x = share.together in
-    record {
-      before = share.before;
-      there = omega (arith, share.there, h.count);
-      tank = sym a.tank ∙ x.tank ∙ b.tank;
-      together = (omega (arith, ints, a.begin, a.end, b.begin, b.end, x.together.1), omega (arith, ints, a.begin, a.end, b.begin, b.end, x.together.0));
-    }
-
-from_tanks : (l : LineData) (tanks : List ℕ) (s : ℕ → ℤ) (xs : List Stay) (period i j : ℕ) (q : ℤ) → AreStays l tanks s xs → HoldOneTank l tanks s period i j q → AreSharing xs period i j q
-from_tanks l tanks s xs period i j q h hold =
-    let a = h.each i (omega (arith, hold.before, hold.there)) in
-    let b = h.each j hold.there in
-    record {
-      before = hold.before;
-      there = omega (arith, hold.there, h.count);
-      together = record {
-        tank = a.tank ∙ hold.tank ∙ sym b.tank;
-        together = (omega (arith, ints, a.begin, a.end, b.begin, b.end, hold.together.1), omega (arith, ints, a.begin, a.end, b.begin, b.end, hold.together.0));
-      };
-    }
-
-pub tanks_first : (l : LineData) (tanks : List ℕ) (s : ℕ → ℤ) (xs : List Stay) (period : ℕ) (o : Option Pair) → AreStays l tanks s xs → IsFirstPair (AreSharing xs period) o → IsFirstPair (HoldOneTank l tanks s period) o
-tanks_first l tanks s xs period o h first =
-    pair_same (AreSharing xs period) (HoldOneTank l tanks s period) o (λ i j q x. to_tanks l tanks s xs period i j q h x) (λ i j q x. from_tanks l tanks s xs period i j q h x) first
+-- the first shift of two visits with one tank, from their stays
+pub tank_shift : (l : LineData) (tanks : List ℕ) (s : ℕ → ℤ) (x y : Stay) (period i j : ℕ) (low high : ℤ) (o : Option ℤ) → IsStay l tanks s i x → IsStay l tanks s j y → i < j → j < visit_count l
+    → get_or tanks i 0 ≡ get_or tanks j 0 → low ≡ x.begin -ℤ y.end → high ≡ x.end -ℤ y.begin → IsFirstShift (λ q. IsBetween low high period q) o → IsFirstShift (HoldOneTank l tanks s period i j) o
+tank_shift l tanks s x y period i j low high o a b before there tank is_low is_high first =
+    shift_same (λ q. IsBetween low high period q) (HoldOneTank l tanks s period i j) o
+    (λ q h. record {
+      before = before;
+      there = there;
+      tank = tank;
+      together = (omega (arith, ints, a.begin, a.end, b.begin, b.end, is_low, is_high, h.1), omega (arith, ints, a.begin, a.end, b.begin, b.end, is_low, is_high, h.0));
+    })
+    (λ q hold. (omega (arith, ints, a.begin, a.end, b.begin, b.end, is_low, is_high, hold.together.1), omega (arith, ints, a.begin, a.end, b.begin, b.end, is_low, is_high, hold.together.0)))
+    first
 
 -- ---- moves
 

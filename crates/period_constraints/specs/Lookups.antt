@@ -20,10 +20,9 @@ pub record IsLookupOf (l : LineData) (x : LookupData) : Type 0 where
   pub visits : x.visits ≡ visit_count l
   pub moves : x.moves ≡ move_count l
 
--- as many tanks and stays as choices, one for each visit, and as many starts as assigned hoists, one for each move
-pub record HasRoom (choices assigned tanks stays starts : ℕ) : Type 0 where
+-- as many tanks as choices, one for each visit, and as many starts as assigned hoists, one for each move
+pub record HasRoom (choices assigned tanks starts : ℕ) : Type 0 where
   pub each_tank : tanks ≡ choices
-  pub each_stay : stays ≡ choices
   pub each_start : starts ≡ assigned
 
 -- rides of the line, and not too many for a table

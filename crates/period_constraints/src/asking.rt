@@ -10,7 +10,7 @@ ghost use Rattle.period_constraints.specs.Pairs as pairs;
 ghost use Rattle.period_constraints.specs.Stays.{AreRouted, AreNear};
 ghost use Rattle.period_constraints.specs.Stays as stays;
 ghost use Rattle.period_constraints.specs.Starts.{IsTable};
-ghost use Rattle.period_constraints.specs.Routed.{HoldOneTank, ClashByRides, IsUnassigned};
+ghost use Rattle.period_constraints.specs.Routed.{ClashByRides, IsUnassigned};
 ghost use Rattle.period_constraints.specs.Places.{system_below};
 ghost use Rattle.period_constraints.specs.Ticks.{AreTicks, tick_at};
 
@@ -18,30 +18,9 @@ use crate::marks::{first_open_visit, mark, write_tanks};
 use crate::pairs::{Pair, move_at, move_count as count_of_moves, visit_at, visit_count};
 use crate::rides::reaching_count;
 use crate::starts::{Start, Table, first_meeting, write_starts};
-use crate::stays::{Stay, first_shared, motion_by, write_stays};
+use crate::stays::{first_tank_pair, motion_by};
 use choice_tree::{Decision, Question};
 use hoist_base::{Line, MoveId};
-
-// The first two visits that hold one tank at one tick; their stays are written into their places.
-fn first_tank_pair(
-    line: &Line,
-    tanks: &[u32],
-    ticks: &[i64],
-    period: u32,
-    stays: &mut [Stay],
-) -> Option<Pair>
-    requires tanks { AreRouted line.now tanks.now }
-    requires ticks { AreTicks line.now ticks.now }
-    requires near { AreNear line.now (tick_at ticks.now) }
-    requires period { (1 ≤ period) × (period ≤ 20001) }
-    requires room { length stays.old ≡ pairs.visit_count line.now }
-    ensures first { IsFirstPair (HoldOneTank line.now tanks.now (tick_at ticks.now) period) result }
-    ensures small { IfSome result (λ x. unsigned_abs x.shift ≤ 1000000000) }
-{
-    let _count = visit_count(line);
-    write_stays(line, tanks, ticks, stays);
-    first_shared(stays, period)
-}
 
 // The first two moves that clash; their starts are written into their places.
 fn first_hoist_pair(
@@ -98,7 +77,7 @@ fn first_unassigned(line: &Line, tanks: &[u32], assigned: &[Option<u32>]) -> Opt
 
 /// The first question that is to be asked below the path; the clashes are those of the table where it has the rides.
 ///
-/// The last five are room: a place for each visit or each move. It doesn't matter what stands in it.
+/// The last four are room: a place for each visit or each move. It doesn't matter what stands in it.
 pub(crate) fn ask(
     line: &Line,
     table: Table,
@@ -108,7 +87,6 @@ pub(crate) fn ask(
     choices: &mut [Option<u32>],
     assigned: &mut [Option<u32>],
     tanks: &mut [u32],
-    stays: &mut [Stay],
     starts: &mut [Start],
 ) -> Option<Question>
     requires table { IsTable line.now table.rides.now table.spans.now }
@@ -117,8 +95,7 @@ pub(crate) fn ask(
     requires ticks { AreTicks line.now ticks.now }
     requires solves { Solves (system_below line.now path.now) period (tick_at ticks.now) }
     requires marks { (length choices.old ≡ pairs.visit_count line.now) × (length assigned.old ≡ move_count line.now) }
-    requires tanks { length tanks.old ≡ pairs.visit_count line.now }
-    requires room { (length stays.old ≡ pairs.visit_count line.now) × (length starts.old ≡ move_count line.now) }
+    requires room { (length tanks.old ≡ pairs.visit_count line.now) × (length starts.old ≡ move_count line.now) }
     ensures first { IsFirstQuestion line.now path.now (tick_at ticks.now) period result }
 {
     let _inner = line.inner();
@@ -129,7 +106,7 @@ pub(crate) fn ask(
         });
     }
     write_tanks(line, choices, tanks);
-    if let Some(pair) = first_tank_pair(line, tanks, ticks, period, stays) {
+    if let Some(pair) = first_tank_pair(line, tanks, ticks, period) {
         return Some(Question::TankOrder {
             a: visit_at(line, pair.first),
             b: visit_at(line, pair.second),
@@ -178,7 +155,6 @@ pub fn first_question(
     let mut choices = [None; 128];
     let mut assigned = [None; 124];
     let mut tanks = [0; 128];
-    let mut stays = [Stay::NONE; 128];
     let mut starts = [Start::NONE; 124];
     ask(
         line,
@@ -189,7 +165,6 @@ pub fn first_question(
         &mut choices[..visits],
         &mut assigned[..moves],
         &mut tanks[..visits],
-        &mut stays[..visits],
         &mut starts[..moves],
     )
 }

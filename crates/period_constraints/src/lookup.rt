@@ -14,7 +14,6 @@ use crate::asking::ask;
 use crate::pairs::{move_count as count_of_moves, visit_count};
 use crate::rides::Ride;
 use crate::starts::{Start, Table};
-use crate::stays::Stay;
 use crate::times::motion_between;
 use choice_tree::{Decision, Question};
 use collision_pairs::{Span, clash};
@@ -35,7 +34,6 @@ pub struct Lookup {
     choices: Vec<Option<u32>>,
     assigned: Vec<Option<u32>>,
     tanks: Vec<u32>,
-    stays: Vec<Stay>,
     starts: Vec<Start>,
 }
 
@@ -47,7 +45,7 @@ impl Model for Lookup {
 
     ghost view = { λ a. record { rides = a.rides.items; spans = a.spans.items; visits = length a.choices.items; moves = length a.assigned.items } };
 
-    ghost invariant = { λ a. HasRoom (length a.choices.items) (length a.assigned.items) (length a.tanks.items) (length a.stays.items) (length a.starts.items) };
+    ghost invariant = { λ a. HasRoom (length a.choices.items) (length a.assigned.items) (length a.tanks.items) (length a.starts.items) };
 }
 
 // Adds the rides of a motion: one for each hoist that reaches it, the lowest first, as far as there is room.
@@ -123,7 +121,6 @@ impl Lookup {
         let choices = vec![in alloc; None; visits]?;
         let assigned = vec![in alloc; None; moves]?;
         let tanks = vec![in alloc; 0; visits]?;
-        let stays = vec![in alloc; Stay::NONE; visits]?;
         let starts = vec![in alloc; Start::NONE; moves]?;
         Ok(Lookup {
             rides,
@@ -132,7 +129,6 @@ impl Lookup {
             choices,
             assigned,
             tanks,
-            stays,
             starts,
         })
     }
@@ -167,7 +163,6 @@ impl Lookup {
             &mut self.choices[..],
             &mut self.assigned[..],
             &mut self.tanks[..],
-            &mut self.stays[..],
             &mut self.starts[..],
         )
     }

@@ -1,14 +1,15 @@
-// When visits hold their tanks, where all tanks are settled, and the first two that are in one at one tick.
+// When visits hold their tanks, where all tanks are settled, and the first two that hold one at one tick.
 ghost use Rattle.std.specs.Prelude.{◌≡◌, ℕ, ◌≤◌, ◌<◌, pos, ◌-ℤ◌, length, get_or, unsigned_abs, IfSome};
 ghost use Rattle.hoist_base.specs.LineData.{IsMove, IsVisit, move_number};
 ghost use Rattle.hoist_base.specs.Valid.{IsLine};
 ghost use Rattle.line_model.specs.Motion.{IsMotion};
 ghost use Rattle.period_constraints.specs.Holds as holds;
 ghost use Rattle.period_constraints.specs.Ticks.{AreTicks, tick_at};
-ghost use Rattle.period_constraints.specs.Pairs.{IsFirstShift, IsFirstPair, IsBetween};
+ghost use Rattle.period_constraints.specs.Pairs.{IsFirstShift, IsFirstPair};
 ghost use Rattle.period_constraints.specs.Pairs as pairs;
-ghost use Rattle.period_constraints.specs.Stays.{AreRouted, AreNear, IsStay, AreStays, AreTogether, AreStaysNear, AreSharing};
+ghost use Rattle.period_constraints.specs.Stays.{AreRouted, AreNear, IsStay};
 ghost use Rattle.period_constraints.specs.Stays as stays;
+ghost use Rattle.period_constraints.specs.Routed.{HoldOneTank};
 
 use crate::failing::tick_of;
 use crate::holds::{Moment, lower_behind, lowering};
@@ -18,21 +19,11 @@ use crate::times::motion_between;
 use hoist_base::{Line, MoveId, VisitId};
 use move_list::{Motion, duration};
 
-/// The tank that a visit holds, and from when to when, in ticks from the tick of move 0 on.
+/// From when to when a visit holds its tank, in ticks from the tick of move 0 on.
 #[derive(Clone, Copy)]
 pub(crate) struct Stay {
-    pub(crate) tank: u32,
     pub(crate) begin: i32,
     pub(crate) end: i32,
-}
-
-impl Stay {
-    /// What a place holds before a stay is written into it.
-    pub(crate) const NONE: Stay = Stay {
-        tank: 0,
-        begin: 0,
-        end: 0,
-    };
 }
 
 /// The motion of a move between the tanks of its two visits.
@@ -143,51 +134,56 @@ fn stay_at(line: &Line, tanks: &[u32], ticks: &[i64], number: u32) -> Stay
     let begin = begin_in(line, tanks, visit);
     let end = end_in(line, tanks, visit);
     Stay {
-        tank: tanks[number as usize],
         begin: since_first(line, ticks, begin),
         end: since_first(line, ticks, end),
     }
 }
 
-/// Writes the stay of each visit into its place.
-pub(crate) fn write_stays(line: &Line, tanks: &[u32], ticks: &[i64], stays: &mut [Stay])
-    requires count { length stays.old ≡ pairs.visit_count line.now }
+// The first q at which two visits, the second q periods later, hold one tank at one tick.
+fn shared_shift(
+    line: &Line,
+    tanks: &[u32],
+    ticks: &[i64],
+    period: u32,
+    first: u32,
+    second: u32,
+) -> Option<i64>
     requires tanks { AreRouted line.now tanks.now }
     requires ticks { AreTicks line.now ticks.now }
     requires near { AreNear line.now (tick_at ticks.now) }
-    ensures { AreStays line.now tanks.now (tick_at ticks.now) stays.new }
-{
-    for number in 0..visit_count(line) {
-        stays[number as usize] = stay_at(line, tanks, ticks, number);
-    }
-}
-
-// The first q at which two stays, the second q periods later, are in one tank at one tick.
-fn shared_shift(a: Stay, b: Stay, period: u32) -> Option<i64>
     requires period { (1 ≤ period) × (period ≤ 20001) }
-    requires first { (unsigned_abs a.begin ≤ 900000) × (unsigned_abs a.end ≤ 900000) }
-    requires second { (unsigned_abs b.begin ≤ 900000) × (unsigned_abs b.end ≤ 900000) }
-    ensures first { IsFirstShift (λ q. AreTogether a b period q) result }
+    requires there { (first < second) × (second < pairs.visit_count line.now) }
+    ensures first { IsFirstShift (HoldOneTank line.now tanks.now (tick_at ticks.now) period first second) result }
     ensures small { IfSome result (λ q. unsigned_abs q ≤ 1000000000) }
 {
-    if a.tank == b.tank {
+    if tanks[first as usize] == tanks[second as usize] {
+        let a = stay_at(line, tanks, ticks, first);
+        let b = stay_at(line, tanks, ticks, second);
         first_shift(a.begin - b.end, a.end - b.begin, period)
     } else {
         None
     }
 }
 
-// The first later stay that is in the tank of this one at one tick, with its first shift.
-fn first_shared_of(stays: &[Stay], period: u32, first: u32) -> Option<Pair>
-    requires few { length stays.now ≤ 128 }
-    requires near { AreStaysNear stays.now }
+// The first later visit that holds the tank of this one at one tick, with its first shift.
+fn first_tank_pair_of(
+    line: &Line,
+    tanks: &[u32],
+    ticks: &[i64],
+    period: u32,
+    first: u32,
+) -> Option<Pair>
+    requires tanks { AreRouted line.now tanks.now }
+    requires ticks { AreTicks line.now ticks.now }
+    requires near { AreNear line.now (tick_at ticks.now) }
     requires period { (1 ≤ period) × (period ≤ 20001) }
-    requires there { first < length stays.now }
-    ensures first { IsFirstPair (λ i j q. (i ≡ first) × AreSharing stays.now period i j q) result }
+    requires there { first < pairs.visit_count line.now }
+    ensures first { IsFirstPair (λ i j q. (i ≡ first) × HoldOneTank line.now tanks.now (tick_at ticks.now) period i j q) result }
     ensures small { IfSome result (λ x. unsigned_abs x.shift ≤ 1000000000) }
 {
-    for second in first + 1..stays.len() as u32 {
-        let shift = shared_shift(stays[first as usize], stays[second as usize], period);
+    let count = visit_count(line);
+    for second in first + 1..count {
+        let shift = shared_shift(line, tanks, ticks, period, first, second);
         if let Some(shift) = shift {
             return Some(Pair {
                 first,
@@ -199,16 +195,22 @@ fn first_shared_of(stays: &[Stay], period: u32, first: u32) -> Option<Pair>
     None
 }
 
-/// The first two stays that are in one tank at one tick.
-pub(crate) fn first_shared(stays: &[Stay], period: u32) -> Option<Pair>
-    requires few { length stays.now ≤ 128 }
-    requires near { AreStaysNear stays.now }
+/// The first two visits that hold one tank at one tick. Their stays are reckoned only where they have one tank.
+pub(crate) fn first_tank_pair(
+    line: &Line,
+    tanks: &[u32],
+    ticks: &[i64],
+    period: u32,
+) -> Option<Pair>
+    requires tanks { AreRouted line.now tanks.now }
+    requires ticks { AreTicks line.now ticks.now }
+    requires near { AreNear line.now (tick_at ticks.now) }
     requires period { (1 ≤ period) × (period ≤ 20001) }
-    ensures first { IsFirstPair (AreSharing stays.now period) result }
+    ensures first { IsFirstPair (HoldOneTank line.now tanks.now (tick_at ticks.now) period) result }
     ensures small { IfSome result (λ x. unsigned_abs x.shift ≤ 1000000000) }
 {
-    for first in 0..stays.len() as u32 {
-        let pair = first_shared_of(stays, period, first);
+    for first in 0..visit_count(line) {
+        let pair = first_tank_pair_of(line, tanks, ticks, period, first);
         if pair.is_some() {
             return pair;
         }
