@@ -1,34 +1,32 @@
 -- What the climb over a path's system says of the path.
-use Rattle.std.proofs.Common.{⊎_elim, inl, inr, ◌⊎◌, ◌≡◌, ℕ, ◌+◌, ◌<◌, ◌≤◌, List, [], ◌∷◌, ◌++◌, length, get_or, map, refl, sym, ◌∙◌, ap, subst, arith, pos, ℤ, Some, None}
+use Rattle.std.proofs.Common.{⊎_elim, inl, inr, ◌⊎◌, ◌≡◌, ℕ, ◌<◌, ◌≤◌, List, [], ◌∷◌, ◌++◌, length, get_or, map, refl, sym, ◌∙◌, ap, subst, arith, ℤ, Some, None}
 use Rattle.std.specs.Prelude.{Option, option_map, option_to_list, IfSome, IsSome}
 use Rattle.hoist_base.specs.LineData.{LineData, move_count}
 use Rattle.hoist_base.specs.Valid.{IsLine}
 use Rattle.hoist_base.specs.Routes.{IsRoute}
-use Rattle.longest_path.specs.System.{SystemData, Refutes, IsLeastSolution}
+use Rattle.longest_path.specs.System.{SystemData, IsLeastSolution}
 use Rattle.cycle_walk.specs.Closed.{WalkData, IsFeasible}
 use Rattle.cycle_walk.specs.Closed as closed
 use Rattle.cycle_walk.specs.Climb.{IsLeastFeasible, Gives, AreRefuted, AllWalks}
 use Rattle.cycle_walk.specs.declared.climbing.Climbed.{Climbed}
 use Rattle.cycle_walk.specs.declared.climbing.Climbed.TheVariants.{Floor, Shut}
-use Rattle.choice_tree.specs.declared.question.Question.{Question}
 use Rattle.choice_tree.specs.declared.question.Decision.{Decision}
 use Rattle.choice_tree.specs.declared.constraint.Constraint.{Constraint}
 use Rattle.choice_tree.specs.declared.constraint.Constraint.TheVariants.{Entry}
-use Rattle.period_constraints.specs.Constraints.{constraint_list, arc_of, arcs_of}
+use Rattle.period_constraints.specs.Constraints.{constraint_list, arc_of}
 use Rattle.period_constraints.specs.Places.{system_below}
 use Rattle.period_constraints.specs.Proves.{RefuteBelow}
-use Rattle.period_constraints.specs.Questions.{Fits, FitsPath, child_count}
+use Rattle.period_constraints.specs.Questions.{FitsPath}
 use Rattle.period_constraints.specs.Order.{IsFirstQuestion}
 use Rattle.period_constraints.specs.Ticks.{tick_at}
 use Rattle.period_constraints.proofs.PairLemmas.{keeps_all}
 use Rattle.std.proofs.lemmas.List.{length-map}
-use Rattle.node_expand.specs.Expansion.{NoneStuck, named}
+use Rattle.node_expand.specs.Expansion.{named}
 use Rattle.node_expand.specs.Plannable.{Settles, IsPlannable}
 use Rattle.node_expand.specs.Shown.{IsShortWalk}
 use Rattle.node_expand.specs.declared.solved.Solved.{Solved}
-use Rattle.node_expand.proofs.WalkLemmas.{names_of, walk_there, short_named, refute_one, refute_two}
+use Rattle.node_expand.proofs.WalkLemmas.{names_of, walk_there, short_named, refute_two}
 use Rattle.node_expand.proofs.FloorLemmas.{not_one}
-use Rattle.node_expand.proofs.SettledLemmas.{some_children}
 
 -- ---- names
 
@@ -124,18 +122,6 @@ walk_is_there l path cap period low line h none =
 
 pub floor_closed : (l : LineData) (path : List Decision) (cap period : ℕ) (low : Option WalkData) (walk : WalkData) → IsFloorAt l path cap period low → low ≡ Some walk → closed.IsClosedWalk (system_below l path) walk
 floor_closed l path cap period low walk h is = let P : Option WalkData → Type 0 = λ o. IfSome o (closed.IsClosedWalk (system_below l path)) in subst P is h.walk_closed
-
-pub floor_shows : (l : LineData) (path : List Decision) (cap period : ℕ) (low : Option WalkData) (walk : WalkData) (names : List Constraint) → IsFloorAt l path cap period low → low ≡ Some walk → names ≡ named l path walk
-    → RefuteBelow l path (names ∷ []) period
-floor_shows l path cap period low walk names h is named_is =
-    let P : Option WalkData → Type 0 = λ o. (t : ℕ) → 1 ≤ t → t < period → Gives o t in
-    let Q : List Constraint → Type 0 = λ ts. RefuteBelow l path (ts ∷ []) period in
-    subst Q (sym named_is) (refute_one l path walk period (floor_closed l path cap period low walk h is) (subst P is h.gives))
-
-pub floor_few : (l : LineData) (path : List Decision) (cap period : ℕ) (low : Option WalkData) (walk : WalkData) (names : List Constraint) → IsFloorAt l path cap period low → low ≡ Some walk → names ≡ named l path walk → IsShortWalk names
-floor_few l path cap period low walk names h is named_is =
-    let Q : List Constraint → Type 0 = λ ts. IsShortWalk ts in
-    subst Q (sym named_is) (short_named l path walk (floor_closed l path cap period low walk h is))
 
 -- ---- solved
 

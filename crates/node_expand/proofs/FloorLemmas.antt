@@ -1,6 +1,6 @@
 -- Periods and ticks that keep the constraints of a path.
-use Rattle.std.proofs.Common.{⊎_elim, ◌≡◌, ℕ, zero, suc, ◌+◌, ◌-◌, ◌*◌, ◌/◌, ◌%◌, ◌<◌, ◌≤◌, List, [], ◌∷◌, ◌++◌, length, get_or, map, min, refl, sym, ◌∙◌, ap, subst, arith, pos, ℤ, Bool, cond, Some, None}
-use Rattle.std.specs.Prelude.{Option, flat_map, fold, negsuc, unsigned_abs, ◌+ℤ◌, ◌≤ℤ◌}
+use Rattle.std.proofs.Common.{⊎_elim, ◌≡◌, ℕ, zero, suc, ◌+◌, ◌-◌, ◌*◌, ◌/◌, ◌%◌, ◌<◌, ◌≤◌, List, [], ◌∷◌, ◌++◌, length, map, min, refl, sym, ◌∙◌, ap, subst, arith, pos, ℤ, Bool, cond, Some, None}
+use Rattle.std.specs.Prelude.{Option, flat_map, fold, negsuc, unsigned_abs}
 use Rattle.std.proofs.lemmas.Bool.{cases_lt, ne_eqb}
 use Rattle.std.proofs.lemmas.Int.{ints}
 use Rattle.std.proofs.lemmas.List.{get_or_past, length-map}
@@ -10,19 +10,19 @@ use Rattle.hoist_base.specs.Valid.{IsLine}
 use Rattle.line_model.specs.declared.motion.Motion.{Motion}
 use Rattle.line_model.specs.Motion.{motion_between}
 use Rattle.longest_path.specs.declared.systems.Arc.{Arc}
-use Rattle.longest_path.specs.System.{SystemData, arc, Leads, IsReached, Solves}
+use Rattle.longest_path.specs.System.{arc, Leads, IsReached, Solves}
 use Rattle.cycle_walk.specs.Closed.{IsFeasible}
 use Rattle.choice_tree.specs.declared.question.Decision.{Decision}
 use Rattle.choice_tree.specs.declared.constraint.Constraint.{Constraint}
 use Rattle.choice_tree.specs.declared.constraint.Constraint.TheVariants.{Min, Entry, Repeat}
 use Rattle.period_constraints.specs.Tanks.{choice_of, tanks_by, tanks_below, motions_below, there_and_back, least_of, back}
-use Rattle.period_constraints.specs.Constraints.{IsConstraint, constraint_list, arc_of, arcs_of, entry_arc, Keeps}
+use Rattle.period_constraints.specs.Constraints.{IsConstraint, constraint_list, arc_of, arcs_of, entry_arc}
 use Rattle.period_constraints.specs.Places.{system_below}
 use Rattle.period_constraints.specs.Ticks.{tick_at, AreTicks}
 use Rattle.period_constraints.proofs.NameLemmas.{place_in, in_list}
-use Rattle.period_constraints.proofs.SpreadLemmas.{KeepsAll, spread}
+use Rattle.period_constraints.proofs.SpreadLemmas.{spread}
 use Rattle.period_constraints.proofs.PairLemmas.{keeps_all}
-use Rattle.node_expand.proofs.WalkLemmas.{name, arc_named}
+use Rattle.node_expand.proofs.WalkLemmas.{arc_named}
 
 -- ---- no period below 2
 

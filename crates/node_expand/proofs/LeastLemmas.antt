@@ -1,17 +1,17 @@
 -- Least periods that are known: what they show, and that decisions on hoists leave them as they are.
-use Rattle.std.proofs.Common.{⊎_elim, ◌≡◌, ℕ, zero, suc, ◌+◌, ◌-◌, ◌<◌, ◌≤◌, List, [], ◌∷◌, ◌++◌, length, take, map, get_or, refl, sym, ◌∙◌, ap, subst, arith, Some, ℤ, Vec, Global}
-use Rattle.std.specs.Prelude.{Option, All}
+use Rattle.std.proofs.Common.{⊎_elim, ◌≡◌, ℕ, zero, suc, ◌+◌, ◌-◌, ◌<◌, ◌≤◌, List, [], ◌∷◌, ◌++◌, length, take, map, get_or, refl, sym, ◌∙◌, ap, subst, arith, Some, Vec, Global}
+use Rattle.std.specs.Prelude.{All}
 use Rattle.std.proofs.lemmas.List.{append-nil, take_all}
 use Rattle.std.proofs.lemmas.Bool.{cases_lt}
 use Rattle.std.proofs.lemmas.List.Elements.{All-get_or}
 use Rattle.hoist_base.specs.LineData.{LineData}
 use Rattle.hoist_base.specs.Valid.{IsLine}
 use Rattle.hoist_base.specs.declared.ids.MoveId.{MoveId}
-use Rattle.longest_path.specs.System.{SystemData, IsSystem, IsLeastSolution}
-use Rattle.cycle_walk.specs.Closed.{WalkData, IsClosedWalk}
+use Rattle.longest_path.specs.System.{SystemData, IsLeastSolution}
+use Rattle.cycle_walk.specs.Closed.{IsClosedWalk}
 use Rattle.cycle_walk.specs.Climb.{climbed}
 use Rattle.cycle_walk.specs.declared.climbing.Climbed.{Climbed}
-use Rattle.cycle_walk.specs.declared.climbing.Climbed.TheVariants.{Floor, Shut}
+use Rattle.cycle_walk.specs.declared.climbing.Climbed.TheVariants.{Floor}
 use Rattle.choice_tree.specs.declared.question.Question.{Question}
 use Rattle.choice_tree.specs.declared.question.Question.TheVariants.{Assign, TankOrder, HoistOrder, Choose}
 use Rattle.choice_tree.specs.declared.question.Decision.{Decision}
@@ -23,13 +23,11 @@ use Rattle.period_constraints.specs.Questions.{FitsPath}
 use Rattle.period_constraints.specs.Places.{system_below}
 use Rattle.period_constraints.specs.Proves.{RefuteBelow}
 use Rattle.period_constraints.proofs.GrowLemmas.{assigned_same}
-use Rattle.node_expand.specs.Expansion.{named, IsFloor, IsShut}
-use Rattle.node_expand.specs.Shown.{IsShortWalk}
 use Rattle.node_expand.specs.Climbs.{IsAssign, EndsInHoists, IsLeastPeriodOf, AreClimbs, IsClimbOf}
 use Rattle.node_expand.specs.declared.least_period.LeastPeriod.{LeastPeriod}
 use Rattle.node_expand.specs.declared.climbs.Climb.{Climb}
 use Rattle.node_expand.specs.declared.climbs.Climbs.{Climbs}
-use Rattle.node_expand.proofs.WalkLemmas.{refute_one, short_named}
+use Rattle.node_expand.proofs.WalkLemmas.{refute_one}
 use Rattle.node_expand.proofs.PathLemmas.{names_more, system_same}
 
 -- ---- what a least period shows
@@ -38,14 +36,6 @@ pub least_refutes : (l : LineData) (path : List Decision) (least : LeastPeriod) 
 least_refutes l path least h =
     let P : List Constraint → Type 0 = λ ts. RefuteBelow l path (ts ∷ []) least.period in
     subst P (sym h.names) (refute_one l path h.walk least.period h.walk_closed h.gives)
-
-pub least_short : (l : LineData) (path : List Decision) (least : LeastPeriod) → IsLeastPeriodOf l path least → IsShortWalk least.low
-least_short l path least h =
-    let P : List Constraint → Type 0 = λ ts. IsShortWalk ts in
-    subst P (sym h.names) (short_named l path h.walk h.walk_closed)
-
-pub least_floor : (l : LineData) (path : List Decision) (least : LeastPeriod) (cap : ℕ) → IsLeastPeriodOf l path least → least.period < cap → IsFloor l path cap least.period least.low
-least_floor l path least cap h below = record { walk = h.walk; climb = h.climb cap below; names = h.names }
 
 -- ---- what a climb is
 

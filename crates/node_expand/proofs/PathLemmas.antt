@@ -16,7 +16,7 @@ use Rattle.period_constraints.specs.Constraints.{IsOrder, decided_arc, arc_of, a
 use Rattle.period_constraints.specs.Questions.{FitsPath}
 use Rattle.period_constraints.specs.Places.{system_below}
 use Rattle.period_constraints.proofs.Settled.{fits-take}
-use Rattle.period_constraints.proofs.BaseLemmas.{system_is, fits_none}
+use Rattle.period_constraints.proofs.BaseLemmas.{system_is}
 use Rattle.period_constraints.proofs.GrowLemmas.{ordered, assigned_same, decided_more}
 use Rattle.node_expand.specs.PathSystems.{IsAt, IsPathSystem, IsPrefix, Outgrows}
 use Rattle.node_expand.specs.declared.path_system.PathSystem.{PathSystem}

@@ -1,11 +1,11 @@
 -- Where every stage has one tank, every path leaves the same moves to the hoists.
-use Rattle.std.proofs.Common.{◌≡◌, ℕ, ◌+◌, ◌<◌, List, [], sym, ap, subst, arith, Some, None}
+use Rattle.std.proofs.Common.{◌≡◌, ℕ, ◌+◌, List, [], sym, ap, subst, arith, Some, None}
 use Rattle.std.specs.Prelude.{Option, MatchOption, Contains}
-use Rattle.hoist_base.specs.LineData.{LineData, stage, position_of, IsSingle, IsStageOf, IsStep, IsMove}
+use Rattle.hoist_base.specs.LineData.{LineData, stage, position_of, IsSingle, IsStageOf, IsStep}
 use Rattle.hoist_base.specs.declared.ids.MoveId.{MoveId}
 use Rattle.choice_tree.specs.declared.question.Decision.{Decision}
 use Rattle.line_model.specs.Motion.{Reaches}
-use Rattle.period_constraints.specs.Tanks.{tanks_by, tanks_below, MayServe, MayReach, IsStuck}
+use Rattle.period_constraints.specs.Tanks.{tanks_by, tanks_below, MayServe, IsStuck}
 use Rattle.period_constraints.specs.Questions.{FitsPath}
 use Rattle.period_constraints.proofs.TankLemmas.{no_choice}
 use Rattle.node_expand.specs.Expansion.{NoneStuck, IsFirstStuck}

@@ -1,13 +1,12 @@
 -- What a path settles where no question is left, and how many children a question has.
-use Rattle.std.proofs.Common.{⊎_elim, inl, inr, ◌⊎◌, ◌≡◌, ◌≢◌, ℕ, zero, suc, ◌+◌, ◌-◌, ◌*◌, ◌/◌, ◌%◌, ◌<◌, ◌≤◌, List, [], ◌∷◌, ◌++◌, length, get_or, take, Bool, true, false, cond, refl, sym, ◌∙◌, ap, subst, arith, Some, None, ℤ}
+use Rattle.std.proofs.Common.{⊎_elim, inl, inr, ◌≡◌, ◌≢◌, ℕ, zero, suc, ◌+◌, ◌-◌, ◌*◌, ◌/◌, ◌%◌, ◌<◌, ◌≤◌, List, [], ◌∷◌, ◌++◌, length, get_or, take, Bool, true, false, cond, refl, sym, ◌∙◌, ap, subst, arith, Some, None, ℤ}
 use Rattle.std.specs.Prelude.{Option, IsSome, slice_get, filter, Contains, option_map}
 use Rattle.std.proofs.lemmas.List.{length-append, get_or_append_left, get_or-append_right}
 use Rattle.std.proofs.lemmas.List.Elements.{Contains-get_or}
 use Rattle.std.proofs.lemmas.Bool.{cases_lt, cases_eq}
-use Rattle.std.proofs.lemmas.Nat.{mul-le, div-mul-add, mod-mul-add, mod_below}
-use Rattle.hoist_base.specs.LineData.{LineData, stage, position_of, last_stage, move_number, move_count, IsMove, IsVisit, Serves}
+use Rattle.std.proofs.lemmas.Nat.{mul-le, div-mul-add, mod-mul-add}
+use Rattle.hoist_base.specs.LineData.{LineData, stage, position_of, IsMove, Serves}
 use Rattle.hoist_base.specs.Valid.{IsLine}
-use Rattle.hoist_base.specs.Routes.{route_tank}
 use Rattle.line_model.specs.declared.motion.Motion.{Motion}
 use Rattle.line_model.specs.Motion.{motion_between, Reaches, ReachesMotion}
 use Rattle.choice_tree.specs.declared.question.Question.{Question}
@@ -15,10 +14,10 @@ use Rattle.choice_tree.specs.declared.question.Question.TheVariants.{Assign, Tan
 use Rattle.choice_tree.specs.declared.question.Decision.{Decision}
 use Rattle.choice_tree.specs.Nodes.{numbers_from}
 use Rattle.choice_tree.proofs.NodeLemmas.{length-numbers_from}
-use Rattle.period_constraints.specs.Tanks.{decision_at, choice_of, tanks_by, tanks_below, one_of, tank_below, motion_below, MayReach}
-use Rattle.period_constraints.specs.Hoists.{assigned_of, reaches_motion, hoists_reaching, hoist_by, hoists_by, hoists_below, hoist_below}
+use Rattle.period_constraints.specs.Tanks.{decision_at, choice_of, tanks_by, tanks_below, one_of, tank_below, motion_below}
+use Rattle.period_constraints.specs.Hoists.{assigned_of, reaches_motion, hoists_reaching, hoist_by, hoists_by, hoists_below}
 use Rattle.period_constraints.specs.Questions.{Stands, Fits, FitsPath, IsOpenMove, IsOpenVisit, child_count}
-use Rattle.period_constraints.specs.Order.{IsAsked, IsFirstQuestion}
+use Rattle.period_constraints.specs.Order.{IsFirstQuestion}
 use Rattle.period_constraints.proofs.Choices.{assigned}
 use Rattle.period_constraints.proofs.Settled.{tanks_are, motion_is, motion_stays, settled_motion, ride_is}
 use Rattle.period_constraints.proofs.TankLemmas.{choice_there}
@@ -26,7 +25,6 @@ use Rattle.period_constraints.proofs.NameLemmas.{In, in_numbers, in_contains}
 use Rattle.period_constraints.proofs.RideLemmas.{reaches_yes}
 use Rattle.node_expand.specs.Expansion.{NoneStuck}
 use Rattle.node_expand.specs.Settled.{HasTanks, HasHoists}
-use Rattle.node_expand.proofs.FloorLemmas.{some_tanks}
 
 pub some_is : {A : Type 0} (o : Option A) (x : A) → o ≡ Some x → IsSome o
 some_is None x e = cc

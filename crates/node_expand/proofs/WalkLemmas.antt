@@ -1,10 +1,9 @@
 -- Walks of a path's system, by the names of their constraints.
-use Rattle.std.proofs.Common.{⊎_elim, inl, inr, ◌⊎◌, ◌≡◌, ℕ, zero, suc, ◌+◌, ◌<◌, ◌≤◌, List, [], ◌∷◌, ◌++◌, length, get_or, map, refl, sym, ◌∙◌, ap, subst, arith, pos, ℤ, Some, None}
-use Rattle.std.specs.Prelude.{Option, option_map, option_to_list, Contains, IfSome, IsSome, ◌+ℤ◌}
+use Rattle.std.proofs.Common.{⊎_elim, inl, inr, ◌⊎◌, ◌≡◌, ℕ, zero, suc, ◌<◌, ◌≤◌, List, [], ◌∷◌, ◌++◌, length, get_or, map, refl, sym, ◌∙◌, ap, subst, arith, pos, ℤ, Some, None}
+use Rattle.std.specs.Prelude.{Option, option_map, option_to_list, IfSome}
 use Rattle.std.proofs.lemmas.Int.{ints}
 use Rattle.std.proofs.lemmas.List.{length-map, get_or-map}
 use Rattle.hoist_base.specs.LineData.{LineData}
-use Rattle.hoist_base.specs.Valid.{IsLine}
 use Rattle.longest_path.specs.declared.systems.Arc.{Arc}
 use Rattle.longest_path.specs.System.{SystemData, arc, Refutes}
 use Rattle.longest_path.specs.System as system

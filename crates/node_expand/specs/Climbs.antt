@@ -1,5 +1,5 @@
 -- Climbs that serve again: what they found holds under later caps, and below decisions on hoists.
-use Rattle.std.specs.Prelude.{◌≡◌, ℕ, ◌≤◌, ◌<◌, ◌⊎◌, List, [], ◌∷◌, ◌++◌, length, get_or, option_to_list, Option, Some, IsSome, IfSome, All}
+use Rattle.std.specs.Prelude.{◌≡◌, ℕ, ◌≤◌, ◌<◌, ◌⊎◌, List, ◌++◌, length, get_or, option_to_list, Some, IsSome, IfSome, All}
 use Rattle.hoist_base.specs.LineData.{LineData}
 use Rattle.longest_path.specs.System.{Refutes, IsLeastSolution}
 use Rattle.cycle_walk.specs.Closed.{WalkData, IsClosedWalk}

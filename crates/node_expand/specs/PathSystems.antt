@@ -1,5 +1,5 @@
 -- The system of a path in memory.
-use Rattle.std.specs.Prelude.{◌≡◌, ℕ, ◌≤◌, List, [], length, take}
+use Rattle.std.specs.Prelude.{◌≡◌, ◌≤◌, List, [], length, take}
 use Rattle.hoist_base.specs.LineData.{LineData}
 use Rattle.choice_tree.specs.declared.question.Decision.{Decision}
 use Rattle.period_constraints.specs.Constraints.{constraint_list}

@@ -1,5 +1,5 @@
 -- What an expansion shows of the periods below a path.
-use Rattle.std.specs.Prelude.{◌≡◌, ℕ, ◌≤◌, ◌<◌, List, [], ◌∷◌, ◌++◌, length, option_to_list, Option, Some, None, IsSome, IfSome, ◌⊎◌}
+use Rattle.std.specs.Prelude.{◌≡◌, ℕ, ◌≤◌, ◌<◌, List, [], ◌∷◌, ◌++◌, length, option_to_list, IsSome, IfSome, ◌⊎◌}
 use Rattle.hoist_base.specs.LineData.{LineData, IsMove}
 use Rattle.choice_tree.specs.declared.question.Decision.{Decision}
 use Rattle.choice_tree.specs.declared.constraint.Constraint.{Constraint}

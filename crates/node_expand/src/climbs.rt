@@ -105,8 +105,7 @@ impl Climbs {
         found
     }
 
-    /// Remembers the climb of a path, in the place of the oldest where there are too many. On want of memory nothing
-    /// changes.
+    /// Remembers the climb of a path, in the place of the oldest where there are too many.
     pub(crate) fn keep(
         &mut self,
         alloc: Global,

@@ -29,7 +29,8 @@ use period_constraints::{Lookup, base_of};
 use std::alloc::{AllocError, Global};
 use std::marker::Model;
 
-/// Expands the paths of one line, one after another, in room that is used again. It is seen as its line.
+/// Expands the paths of one line, one after another, in room that is used again. It remembers the climbs of recent paths,
+/// and is seen as its line.
 #[derive(Drop)]
 pub struct Expander {
     line: Line,

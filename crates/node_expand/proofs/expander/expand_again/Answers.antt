@@ -1,4 +1,4 @@
-use Rattle.std.proofs.Common.{ℕ, ap, arith}
+use Rattle.std.proofs.Common.{ap, arith}
 use Rattle.node_expand.specs.declared.least_period.LeastPeriod.{LeastPeriod}
 use Rattle.node_expand.proofs.expander.expand_again.Goals as goal
 

@@ -1,4 +1,4 @@
-use Rattle.std.proofs.Common.{ℕ, subst}
+use Rattle.std.proofs.Common.{subst}
 use Rattle.node_expand.specs.Climbs.{IsPathClimb}
 use Rattle.node_expand.specs.declared.least_period.PathClimb.{PathClimb}
 use Rattle.node_expand.proofs.expander.expand_at.Goals as goal

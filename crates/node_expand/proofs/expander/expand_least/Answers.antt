@@ -1,4 +1,4 @@
-use Rattle.std.proofs.Common.{◌≡◌, ℕ, ℤ, sym, subst, ap, ◌∙◌, arith, List, [], ◌∷◌, None}
+use Rattle.std.proofs.Common.{ℕ, sym, subst, arith, [], ◌∷◌}
 use Rattle.std.specs.Prelude.{Option}
 use Rattle.choice_tree.specs.declared.question.Question.{Question}
 use Rattle.period_constraints.specs.Order.{IsFirstQuestion}

@@ -1,9 +1,9 @@
-use Rattle.std.proofs.Common.{◌≡◌, ℕ, ◌<◌, ◌≤◌, sym, subst, ap, ◌∙◌, arith, Some}
+use Rattle.std.proofs.Common.{ℕ, ◌<◌, ◌≤◌, subst, ap, ◌∙◌, Some}
 use Rattle.std.specs.Prelude.{Option}
-use Rattle.longest_path.specs.System.{SystemData, IsSystem, Refutes}
+use Rattle.longest_path.specs.System.{SystemData, IsSystem}
 use Rattle.cycle_walk.specs.Closed.{WalkData}
-use Rattle.cycle_walk.specs.Climb.{climbed, Gives}
-use Rattle.cycle_walk.specs.declared.climbing.Climbed.TheVariants.{Floor, Shut}
+use Rattle.cycle_walk.specs.Climb.{Gives}
+use Rattle.cycle_walk.specs.declared.climbing.Climbed.TheVariants.{Floor}
 use Rattle.period_constraints.specs.Places.{system_below}
 use Rattle.node_expand.proofs.ExpandLemmas.{names_there, some_names_there, names_are, some_names_are, shut_at, shut_shows, shut_few, floor_at, walk_is_there, floor_closed}
 use Rattle.node_expand.proofs.CapLemmas.{climbed_later}

@@ -1,5 +1,5 @@
-use Rattle.std.proofs.Common.{◌≡◌, ℕ, ℤ, List, arith, sym, subst, ap, ◌<◌}
-use Rattle.longest_path.specs.System.{SystemData, IsReached, IsLeastSolution, HasNoSolution}
+use Rattle.std.proofs.Common.{ℤ, List, arith, sym, subst, ap}
+use Rattle.longest_path.specs.System.{SystemData, IsReached}
 use Rattle.longest_path.specs.Answer.{IsLeastAnswer}
 use Rattle.longest_path.specs.declared.least_ticks.LeastTicks.{LeastTicks}
 use Rattle.period_constraints.specs.Places.{system_below}

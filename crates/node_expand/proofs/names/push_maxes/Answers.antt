@@ -1,4 +1,4 @@
-use Rattle.std.proofs.Common.{arith, ◌+◌, ◌-◌, ◌∙◌, sym, ap, List, ℕ, [], ◌∷◌, ◌++◌, Bool, Vec, Global}
+use Rattle.std.proofs.Common.{arith, ◌+◌, ◌-◌, ◌∙◌, sym, ap, [], ◌∷◌, ◌++◌, Bool, Vec, Global}
 use Rattle.std.specs.Prelude.{is_some, cond}
 use Rattle.std.proofs.lemmas.List.{append-nil}
 use Rattle.hoist_base.specs.LineData.{stage}

@@ -1,5 +1,3 @@
-use Rattle.std.proofs.Common.{[], ◌++◌}
-use Rattle.period_constraints.specs.Constraints.{by_carrier}
 use Rattle.node_expand.proofs.RowLemmas.{AreRows, min_row, max_row, entry_row, visit_row, repeat_row}
 use Rattle.node_expand.proofs.names.undecided_names.Given as goal
 

@@ -1,5 +1,5 @@
 use Rattle.std.proofs.Common.{◌≡◌, ℕ, sym, subst, ap, ◌∙◌, arith, List, Some, get_or, ◌*◌, ◌+◌}
-use Rattle.hoist_base.specs.LineData.{last_stage, move_count, move_number}
+use Rattle.hoist_base.specs.LineData.{last_stage, move_number}
 use Rattle.period_constraints.specs.Hoists.{hoist_below}
 use Rattle.node_expand.proofs.SettledLemmas.{by_number}
 use Rattle.node_expand.proofs.settling.hoists_of.Goals as goal

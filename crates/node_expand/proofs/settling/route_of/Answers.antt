@@ -1,4 +1,4 @@
-use Rattle.std.proofs.Common.{◌≡◌, ℕ, sym, subst, ap, ◌∙◌, arith, List, Some, get_or, ◌*◌, ◌/◌, ◌%◌, ◌+◌, length, ◌<◌}
+use Rattle.std.proofs.Common.{◌≡◌, ℕ, sym, subst, ap, ◌∙◌, arith, List, Some, ◌*◌, ◌/◌, ◌%◌, ◌+◌, length, ◌<◌}
 use Rattle.std.proofs.lemmas.Nat.{mod_below}
 use Rattle.hoist_base.specs.LineData.{IsVisit}
 use Rattle.hoist_base.specs.Routes.{route_tank}

@@ -1,5 +1,4 @@
-use Rattle.std.proofs.Common.{⊎_elim, arith, subst, ◌≡◌, ℕ, ◌<◌, sym}
-use Rattle.hoist_base.specs.LineData.{IsStep}
+use Rattle.std.proofs.Common.{⊎_elim, arith, subst, ℕ, ◌<◌}
 use Rattle.period_constraints.specs.Tanks.{IsStuck}
 use Rattle.node_expand.proofs.NoneLemmas.{none_more}
 use Rattle.node_expand.proofs.stuck.first_stuck.Goals as goal

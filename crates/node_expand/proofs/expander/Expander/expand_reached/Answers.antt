@@ -1,4 +1,4 @@
-use Rattle.std.proofs.Common.{ℕ, ◌≡◌, ◌∙◌, subst}
+use Rattle.std.proofs.Common.{◌∙◌, subst}
 use Rattle.hoist_base.specs.LineData.{LineData}
 use Rattle.node_expand.specs.Climbs.{AreClimbs}
 use Rattle.node_expand.proofs.LeastLemmas.{least_found}

@@ -1,4 +1,4 @@
-use Rattle.std.proofs.Common.{arith, ap, sym, ◌∙◌, ◌≡◌, refl, List, ℕ, length, take, subst}
+use Rattle.std.proofs.Common.{arith, ap, sym, ◌∙◌, ◌≡◌, List, ℕ, length, take, subst}
 use Rattle.std.proofs.lemmas.List.{take_all}
 use Rattle.choice_tree.specs.declared.question.Decision.{Decision}
 use Rattle.node_expand.specs.PathSystems.{IsAt}

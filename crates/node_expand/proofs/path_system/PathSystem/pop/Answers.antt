@@ -1,4 +1,4 @@
-use Rattle.std.proofs.Common.{arith, ap, sym, ◌∙◌, ◌≡◌, refl, List, ℕ, ◌-◌, length}
+use Rattle.std.proofs.Common.{arith, ap, ◌≡◌, List, ◌-◌, length}
 use Rattle.choice_tree.specs.declared.constraint.Constraint.{Constraint}
 use Rattle.period_constraints.proofs.DecideLemmas.{order_of}
 use Rattle.node_expand.proofs.PathLemmas.{some_names, order_last, back_assign, back_order}
