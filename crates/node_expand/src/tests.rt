@@ -295,27 +295,37 @@ fn agrees(
     Ok(same)
 }
 
+// Whether an expander that expanded the root gives its child under a cap as a new one gives it.
+fn child_agrees(alloc: Global, line: &Line, child: u32, cap: u32) -> Result<bool, AllocError>
+    requires cap { (2 ≤ cap) × (cap ≤ 20001) }
+{
+    let base = base_of(alloc, line)?;
+    let mut expander = Expander::new(alloc, line, &base)?;
+    let root = expander.expand(alloc, line, &[], 101)?;
+    match decision_of(line, &root, child) {
+        None => Ok(false),
+        Some(decision) => {
+            let same = agrees(alloc, &mut expander, line, &[decision], cap)?;
+            Ok(same)
+        }
+    }
+}
+
 // A question on a hoist splits the root at period 6. Its children come out as without the root's climb, under caps above
 // that period, at it and below it.
 #[test]
 fn children_of_hoists(rt: HostRuntime) -> Result<(), Fail> {
     let alloc = rt.alloc();
     let line = both_reach(alloc).ok_or("no line")?;
-    let base = base_of(alloc, &line)?;
+    let root = expand(alloc, &line, &[], 101)?;
     let back = Constraint::Repeat { c: 0, k: 0 };
     let m = MoveId {
         carrier: 0,
         step: 0,
     };
-    let mut expander = Expander::new(alloc, &line, &base)?;
-    let root = expander.expand(alloc, &line, &[], 101)?;
     assert!(rt; splits_in_two(&root, Question::Assign { m }, 6, &[back]));
-    let low = [decision_of(&line, &root, 0).ok_or("no child")?];
-    let high = [decision_of(&line, &root, 1).ok_or("no child")?];
-    assert!(rt; agrees(alloc, &mut expander, &line, &low, 101)?);
-    assert!(rt; agrees(alloc, &mut expander, &line, &low, 7)?);
-    assert!(rt; agrees(alloc, &mut expander, &line, &low, 6)?);
-    assert!(rt; agrees(alloc, &mut expander, &line, &high, 5)?);
-    assert!(rt; agrees(alloc, &mut expander, &line, &high, 101)?);
+    for (child, cap) in [(0, 101), (0, 7), (0, 6), (1, 5), (1, 101)] {
+        assert!(rt; child_agrees(alloc, &line, child, cap)?);
+    }
     Ok(())
 }
