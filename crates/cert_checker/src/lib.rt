@@ -9,7 +9,6 @@ mod nodes;
 mod periods;
 mod reason;
 mod stuck;
-mod tanks;
 #[cfg(test)]
 mod tests;
 mod tree;

@@ -11,11 +11,10 @@ ghost use Rattle.cert_checker.specs.Judged as judged;
 use crate::periods::first_open;
 use crate::reason::{Reason, Sums};
 use crate::stuck::is_stuck_move;
-use crate::tanks::child_count;
 use crate::walks::{Followed, follow, follow_some};
 use choice_tree::{Decision, Node, Proof, Question};
 use hoist_base::{Line, MoveId};
-use period_constraints::fits;
+use period_constraints::{child_count, fits};
 
 // How many constraints a walk has.
 fn count_of(followed: Option<Followed>) -> u32

@@ -6,10 +6,10 @@ ghost use Rattle.line_model.specs.Motion.{Reaches};
 ghost use Rattle.period_constraints.specs.Questions.{FitsPath};
 ghost use Rattle.period_constraints.specs.Tanks.{IsStuck};
 
-use crate::tanks::tanks_below;
 use choice_tree::Decision;
 use hoist_base::{Line, MoveId, VisitId};
 use move_list::reaches_place;
+use period_constraints::tanks_below;
 
 // Whether this is a move of the line.
 fn is_move(line: &Line, m: MoveId) -> bool

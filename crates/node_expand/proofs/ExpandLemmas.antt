@@ -1,5 +1,5 @@
 -- What the climb over a path's system says of the path.
-use Rattle.std.proofs.Common.{⊎_elim, inl, inr, ◌⊎◌, ◌≡◌, ℕ, ◌<◌, ◌≤◌, List, [], ◌∷◌, ◌++◌, length, get_or, map, refl, sym, ◌∙◌, ap, subst, arith, ℤ, Some, None}
+use Rattle.std.proofs.Common.{⊎_elim, inl, inr, ◌⊎◌, ◌≡◌, ℕ, ◌<◌, ◌≤◌, List, ◌++◌, length, get_or, map, refl, sym, ◌∙◌, ap, subst, arith, ℤ, Some, None}
 use Rattle.std.specs.Prelude.{Option, option_map, option_to_list, IfSome, IsSome}
 use Rattle.hoist_base.specs.LineData.{LineData, move_count}
 use Rattle.hoist_base.specs.Valid.{IsLine}

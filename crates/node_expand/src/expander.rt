@@ -18,14 +18,13 @@ use crate::climbs::{Climbs, without_hoists};
 use crate::expanded::Expanded;
 use crate::least_period::{LeastPeriod, PathClimb, climb_at};
 use crate::path_system::PathSystem;
-use crate::rides::child_count;
 use crate::settling::{hoists_of, route_of};
 use crate::solved::{Solved, Ticks};
 use crate::stuck::Reach;
 use choice_tree::{Decision, Question};
 use hoist_base::Line;
 use longest_path::{Room, System};
-use period_constraints::{Lookup, base_of};
+use period_constraints::{Lookup, base_of, child_count};
 use std::alloc::{AllocError, Global};
 use std::marker::Model;
 

@@ -7,11 +7,9 @@ mod expander;
 mod least_period;
 mod names;
 mod path_system;
-mod rides;
 mod settling;
 mod solved;
 mod stuck;
-mod tanks;
 #[cfg(test)]
 mod tests;
 

@@ -1,5 +1,5 @@
 // The tanks and the hoists of a path that leaves none of them open.
-ghost use Rattle.std.specs.Prelude.{◌≡◌, ℕ, length, get_or, Some, IfOk};
+ghost use Rattle.std.specs.Prelude.{◌≡◌, ℕ, length, get_or, Some, IsSome, IfOk};
 ghost use Rattle.hoist_base.specs.LineData.{IsMove, IsVisit, move_number, move_count};
 ghost use Rattle.hoist_base.specs.Routes.{IsRoute, route_tank};
 ghost use Rattle.period_constraints.specs.Questions.{FitsPath};
@@ -7,12 +7,24 @@ ghost use Rattle.period_constraints.specs.Tanks.{tank_below};
 ghost use Rattle.period_constraints.specs.Hoists as below;
 ghost use Rattle.node_expand.specs.Settled.{HasTanks, HasHoists};
 
-use crate::rides::hoist_below;
 use crate::solved::Hoists;
-use crate::tanks::tanks_below;
 use choice_tree::Decision;
 use hoist_base::{Line, MoveId, Route, VisitId};
+use period_constraints::{hoist_below, tanks_below};
 use std::alloc::{AllocError, Global};
+
+// The hoist of a move that the path leaves one.
+fn hoist_of(line: &Line, path: &[Decision], m: MoveId) -> u32
+    requires fits { FitsPath line.now path.now }
+    requires there { IsMove line.now m.carrier m.step }
+    requires settled { IsSome (below.hoist_below line.now path.now m.carrier m.step) }
+    ensures { below.hoist_below line.now path.now m.carrier m.step ≡ Some result }
+{
+    match hoist_below(line, path, m) {
+        Some(hoist) => hoist,
+        None => unreachable!(),
+    }
+}
 
 /// The hoist of each move.
 pub(crate) fn hoists_of(alloc: Global, line: &Line, path: &[Decision]) -> Result<Hoists, AllocError>
@@ -29,7 +41,7 @@ pub(crate) fn hoists_of(alloc: Global, line: &Line, path: &[Decision]) -> Result
             carrier: i / steps,
             step: i % steps,
         };
-        numbers.push(hoist_below(line, path, m))?;
+        numbers.push(hoist_of(line, path, m))?;
     }
     Ok(Hoists::from_vec(numbers))
 }

@@ -7,10 +7,10 @@ ghost use Rattle.period_constraints.specs.Tanks.{MayServe, MayReach, IsStuck};
 ghost use Rattle.node_expand.specs.Expansion.{NoneStuck, IsFirstStuck};
 ghost use Rattle.node_expand.specs.Reaching.{IsReachOf};
 
-use crate::tanks::tanks_below;
 use choice_tree::Decision;
 use hoist_base::{Line, MoveId, VisitId};
 use move_list::reaches_place;
+use period_constraints::tanks_below;
 
 /// Which move no hoist may reach.
 ///

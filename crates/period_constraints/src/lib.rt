@@ -23,5 +23,7 @@ mod times;
 pub use asking::first_question;
 pub use failing::fails;
 pub use lookup::Lookup;
-pub use questions::fits;
+pub use questions::{child_count, fits};
+pub use rides::hoist_below;
 pub use systems::{base_of, constraint_of, decide, system_of};
+pub use tanks::tanks_below;

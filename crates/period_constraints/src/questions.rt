@@ -1,8 +1,11 @@
 // Whether a question may stand below a path.
-ghost use Rattle.std.specs.Prelude.{◌≡◌, ◌≤◌, ◌↔◌, IsTrue, unsigned_abs};
+ghost use Rattle.std.specs.Prelude.{◌≡◌, ◌≤◌, ◌<◌, ◌↔◌, length, IsTrue, unsigned_abs};
 ghost use Rattle.hoist_base.specs.LineData.{IsMove, IsVisit};
+ghost use Rattle.hoist_base.specs.LineData.{stage as stage_of};
 ghost use Rattle.hoist_base.specs.Valid.{IsLine};
 ghost use Rattle.period_constraints.specs.Tanks as tanks;
+ghost use Rattle.period_constraints.specs.Hoists as hoists;
+ghost use Rattle.period_constraints.specs.Questions as questions;
 ghost use Rattle.period_constraints.specs.Questions.{IsBefore, HasBegin, ShareTank, MayClash, IsOpenVisit, IsOpenMove, FitsPath, Fits};
 
 use crate::rides::{assigned_of, clash_below, motion_below, reaching_count};
@@ -156,5 +159,40 @@ pub fn fits(line: &Line, path: &[Decision], question: Question) -> bool
         Question::TankOrder { a, b, q } => is_small(q) && share_tank(line, path, a, b),
         Question::HoistOrder { a, b, q } => is_small(q) && may_clash(line, path, a, b),
         Question::Choose { v } => is_open_visit(line, path, v),
+    }
+}
+
+// How many hoists reach a move, where the path settles its motion.
+fn hoist_count(line: &Line, path: &[Decision], m: MoveId) -> u32
+    requires fits { FitsPath line.now path.now }
+    requires there { IsMove line.now m.carrier m.step }
+    ensures { result ≡ length (hoists.hoists_below line.now path.now m.carrier m.step) }
+{
+    match motion_below(line, path, m) {
+        None => 0,
+        Some(a) => reaching_count(line, a),
+    }
+}
+
+// How many tanks a stage has.
+fn tank_count(line: &Line, stage: u32) -> u32
+    requires { stage < length line.now.stages }
+    ensures { result ≡ length (stage_of line.now stage).tanks }
+{
+    line.stages()[stage as usize].tanks.as_slice().len() as u32
+}
+
+/// How many children a question that fits the path has: one for each tank of the stage or each hoist that reaches the
+/// move, or the two orders.
+pub fn child_count(line: &Line, path: &[Decision], question: Question) -> u32
+    requires fits { FitsPath line.now path.now }
+    requires question { Fits line.now path.now question }
+    ensures { result ≡ questions.child_count line.now path.now question }
+{
+    match question {
+        Question::Assign { m } => hoist_count(line, path, m),
+        Question::TankOrder { .. } => 2,
+        Question::HoistOrder { .. } => 2,
+        Question::Choose { v } => tank_count(line, v.stage),
     }
 }

@@ -159,3 +159,16 @@ pub(crate) fn clash_below(line: &Line, path: &[Decision], a: MoveId, b: MoveId) 
         },
     }
 }
+
+/// The hoist of a move, where the path settles its motion and its hoist: the only one that reaches it, or that of its
+/// Assign.
+pub fn hoist_below(line: &Line, path: &[Decision], m: MoveId) -> Option<u32>
+    requires fits { FitsPath line.now path.now }
+    requires there { IsMove line.now m.carrier m.step }
+    ensures { result ≡ hoists.hoist_below line.now path.now m.carrier m.step }
+{
+    match ride_below(line, path, m) {
+        None => None,
+        Some(ride) => Some(ride.hoist),
+    }
+}

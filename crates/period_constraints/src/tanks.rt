@@ -25,7 +25,7 @@ pub(crate) fn choice_of(path: &[Decision], visit: VisitId) -> Option<u32>
 /// The tanks that are open to a visit below the path: the one of its Choose, or all of its stage.
 ///
 /// A stage with one tank has no Choose, so the path is not looked at there.
-pub(crate) fn tanks_below<'a>(line: &'a Line, path: &[Decision], visit: VisitId) -> &'a [u32]
+pub fn tanks_below<'a>(line: &'a Line, path: &[Decision], visit: VisitId) -> &'a [u32]
     requires fits { FitsPath line.now path.now }
     requires there { IsVisit line.now visit.carrier visit.stage }
     ensures value { result.now ≡ below.tanks_below line.now path.now visit.carrier visit.stage }
