@@ -1,2 +1,5 @@
-pub mod ValidLemmas
+pub mod Firsts
+pub mod FlawLemmas
 pub mod RouteLemmas
+pub mod NumberLemmas
+pub mod SingleLemmas

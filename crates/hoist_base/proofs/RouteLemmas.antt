@@ -5,6 +5,7 @@ use Rattle.std.proofs.lemmas.List.Elements.{Contains-get_or}
 use Rattle.std.proofs.lemmas.Nat.{mul-le}
 use Rattle.std.proofs.Math.Nat.{add-mul-mod_self_right, mod-eq_of_lt}
 use Rattle.hoist_base.specs.LineData.{LineData, stage, IsSingle}
+use Rattle.hoist_base.specs.Limits.{max_degree}
 use Rattle.hoist_base.specs.Valid.{IsLine}
 use Rattle.hoist_base.specs.Routes.{IsRoute}
 
@@ -29,7 +30,7 @@ first_tanks l numbers count single long is firsts = record {
 }
 
 -- the degree may be any
-pub of_degree_line : (l : LineData) (d : ℕ) → IsLine l → (1 ≤ d) × (d ≤ 4) → IsLine (record l { degree = d })
+pub of_degree_line : (l : LineData) (d : ℕ) → IsLine l → (1 ≤ d) × (d ≤ max_degree) → IsLine (record l { degree = d })
 of_degree_line l d line within = record {
   limits = record {
     track = line.limits.track;

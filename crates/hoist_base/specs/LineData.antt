@@ -1,8 +1,10 @@
 -- A line as data: what contracts see of a `Line`. Stages, tanks and visits go by number, from 0.
-use Rattle.std.specs.Prelude.{◌≡◌, ℕ, ◌+◌, ◌-◌, ◌*◌, ◌<◌, List, [], length, get_or, None}
-use Rattle.std.specs.List.{Contains}
+use Rattle.std.specs.Prelude.{◌≡◌, ℕ, ◌+◌, ◌-◌, ◌*◌, ◌/◌, ◌%◌, ◌<◌, ◌==◌, Bool, List, [], length, get_or, None}
+use Rattle.std.specs.List.{Contains, list_all}
 use Rattle.hoist_base.specs.declared.tank.Tank.{Tank}
 use Rattle.hoist_base.specs.declared.stage.Stage.{Stage}
+use Rattle.hoist_base.specs.declared.ids.MoveId.{MoveId}
+use Rattle.hoist_base.specs.declared.ids.VisitId.{VisitId}
 
 pub record LineData : Type 0 where
   pub track : ℕ
@@ -63,6 +65,21 @@ move_number l c k = c * last_stage l + k
 abbrev pub move_count : LineData → ℕ
 move_count l = l.degree * last_stage l
 
+-- the move with a number
+abbrev pub move_at : LineData → ℕ → MoveId
+move_at l i = record { carrier = i / last_stage l; step = i % last_stage l }
+
+-- lists by visit hold the visits in the same way, by carrier and then by stage
+abbrev pub visit_number : LineData → ℕ → ℕ → ℕ
+visit_number l c k = c * length l.stages + k
+
+abbrev pub visit_count : LineData → ℕ
+visit_count l = l.degree * length l.stages
+
+-- the visit with a number
+abbrev pub visit_at : LineData → ℕ → VisitId
+visit_at l i = record { carrier = i / length l.stages; stage = i % length l.stages }
+
 -- tank i is one of the tanks of stage k
 abbrev pub Serves : LineData → ℕ → ℕ → Type 0
 Serves l i k = Contains (stage l k).tanks i
@@ -70,3 +87,7 @@ Serves l i k = Contains (stage l k).tanks i
 -- every stage has one tank
 abbrev pub IsSingle : LineData → Type 0
 IsSingle l = (k : ℕ) → IsStageOf l k → length (stage l k).tanks ≡ 1
+
+-- the same as a test
+abbrev pub is_single : LineData → Bool
+is_single l = list_all (λ (s : Stage). length s.tanks == 1) l.stages

@@ -1,6 +1,7 @@
 // Valid lines.
 ghost use Rattle.std.specs.Prelude.{◌≡◌, ◌+◌, ◌<◌, ◌≤◌, ◌↔◌, length, IsTrue, IfOk};
-ghost use Rattle.hoist_base.specs.LineData.{last_step, position_of, IsSingle};
+ghost use Rattle.hoist_base.specs.LineData.{last_step, position_of, is_single, IsSingle};
+ghost use Rattle.hoist_base.specs.Limits.{max_degree};
 ghost use Rattle.hoist_base.specs.Valid.{IsLine};
 ghost use Rattle.hoist_base.specs.PartsData.{data_of};
 ghost use Rattle.hoist_base.specs.Routes.{IsRoute};
@@ -130,8 +131,10 @@ impl Line {
     }
 
     /// Whether every stage has one tank.
+    #[tactic(auto, using(crate::proofs::SingleLemmas::single_is))]
     pub fn single(&self) -> bool
         ensures value { IsTrue result ↔ IsSingle self.now }
+        ensures test { result ≡ is_single self.now }
         ensures valid { IsLine self.now }
     {
         for k in 0..self.parts.stages.len() {
@@ -157,7 +160,7 @@ impl Line {
 
     /// The same line with another degree: `degree` carriers enter in each period.
     pub fn of_degree(&self, alloc: Global, degree: u32) -> Result<Line, AllocError>
-        requires { (1 ≤ degree) × (degree ≤ 4) }
+        requires { (1 ≤ degree) × (degree ≤ max_degree) }
         ensures { IfOk result (λ line. line ≡ record self.now { degree = degree }) }
     {
         let tanks = copied_tanks(alloc, self.parts.tanks.as_slice())?;

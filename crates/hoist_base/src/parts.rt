@@ -4,9 +4,10 @@ use crate::tank::Tank;
 
 /// The parts of a line; `Line::new` makes the line of parts that are valid.
 ///
-/// Positions and the `gap` between neighbouring hoists are in ticks of travel, `load` and `unload` are the ticks
-/// that a carrier spends at the load station before a lift and at the unload station after it was set
-/// down, `degree` says how many carriers enter in each period, and `max_period` is the greatest period that a search considers.
+/// Positions and the `gap` between neighbouring hoists are in ticks of travel. `load` and `unload` are the ticks
+/// that a carrier spends at the load station before a lift and at the unload station after it was set down.
+/// `degree` says how many carriers enter in each period, and `max_period` is the greatest period that a search
+/// considers.
 #[derive(Debug, Drop)]
 pub struct LineParts {
     pub track: u32,

@@ -46,7 +46,8 @@ impl Tanks {
 ///
 /// Each carrier uses one of `tanks`. Its dwell there is at least `min` ticks and, where `max` is
 /// there, at most `max`. `lift` is how many ticks lifting out of the stage takes, `lower` how many
-/// lowering into it. The first stage has no `lower`, the last no `lift`, and neither a window: these are 0 and None.
+/// lowering into it. The first stage has no `lower`, the last no `lift`, and neither a window: these are 0
+/// and None.
 #[derive(Debug, Drop)]
 pub struct Stage {
     pub tanks: Tanks,
