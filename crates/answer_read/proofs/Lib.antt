@@ -1,9 +1,3 @@
-pub mod Field
-pub mod Numbers
-pub mod Signed
-pub mod Words
-pub mod Items
-pub mod Loops
 pub mod Walks
 pub mod Rows
 pub mod Growing

@@ -5,7 +5,7 @@ use Rattle.choice_tree.specs.declared.node.Node.{Node}
 use Rattle.choice_tree.specs.declared.node.Node.TheVariants.{Split, Closed, Stuck, Solved, Left}
 use Rattle.choice_tree.specs.Nodes.{children_of, numbers_from}
 use Rattle.choice_tree.proofs.NodeLemmas.{length-numbers_from}
-use Rattle.answer_text.specs.Fields.{end, pair_text}
+use Rattle.text_writing.specs.Texts.{end, pair_text}
 use Rattle.answer_text.specs.Nodes.{node_text, IsNodeText}
 use Rattle.answer_read.specs.declared.row.Row.{Row}
 use Rattle.answer_read.specs.declared.row.Row.TheVariants as rows
@@ -62,7 +62,8 @@ arity_is single (Solved low) f = refl
 arity_is single (Left low) f = refl
 
 -- a node is told by its line and its children
-pub node_again : (single : Bool) (n : Node) (first : ℕ) → IsNodeText single n → children_of n ≡ numbers_from first (arity (row_of n)) → node_of (row_of n) first ≡ n
+pub node_again : (single : Bool) (n : Node) (first : ℕ) → IsNodeText single n → children_of n ≡ numbers_from first (arity (row_of n))
+    → node_of (row_of n) first ≡ n
 node_again single (Split (questions.Choose v) children) first f e = ap (λ (cs : List ℕ). Split (questions.Choose v) cs) (sym e)
 node_again single (Split (questions.TankOrder a b q) children) first f e = ap (λ (cs : List ℕ). Split (questions.TankOrder a b q) cs) (sym e)
 node_again single (Split (questions.HoistOrder a b q) children) first f e = ap (λ (cs : List ℕ). Split (questions.HoistOrder a b q) cs) (sym e)
@@ -98,10 +99,12 @@ node_of_fits single (rows.Left low) first f = f
 
 -- the node of a line has the line's text
 pub line_text_is : (single : Bool) (r : Row) (first : ℕ) → node_text single (node_of r first) ≡ row_text single r
-line_text_is single (rows.Choose v m) first = ap (λ (n : ℕ). codes "split choose " ++ (pair_text v.carrier v.stage ++ (codes " " ++ (decimal n ++ end)))) (length-numbers_from first m)
+line_text_is single (rows.Choose v m) first =
+    ap (λ (n : ℕ). codes "split choose " ++ (pair_text v.carrier v.stage ++ (codes " " ++ (decimal n ++ end)))) (length-numbers_from first m)
 line_text_is single (rows.TankOrder a b q) first = refl
 line_text_is single (rows.HoistOrder a b q) first = refl
-line_text_is single (rows.Assign m n) first = ap (λ (k : ℕ). codes "split assign " ++ (pair_text m.carrier m.step ++ (codes " " ++ (decimal k ++ end)))) (length-numbers_from first n)
+line_text_is single (rows.Assign m n) first =
+    ap (λ (k : ℕ). codes "split assign " ++ (pair_text m.carrier m.step ++ (codes " " ++ (decimal k ++ end)))) (length-numbers_from first n)
 line_text_is single (rows.ClosedLow low high) first = refl
 line_text_is single (rows.ClosedHigh high) first = refl
 line_text_is single (rows.Stuck m) first = refl

@@ -1,6 +1,7 @@
 -- Trees and their lines in preorder: a tree that grew line by line has these lines in preorder, and its nodes are numbered in
 -- preorder; and each tree that is numbered so grew from its lines.
-use Rattle.std.proofs.Common.{⊎_elim, ◌⊎◌, inl, inr, ◌≡◌, ℕ, zero, suc, ◌+◌, ◌-◌, ◌^◌, ◌<◌, ◌≤◌, List, [], ◌∷◌, ◌++◌, length, get_or, map, Bool, refl, sym, ap, subst, ◌∙◌, arith, length-append, set, Some, None}
+use Rattle.std.proofs.Common.{⊎_elim, ◌⊎◌, inl, inr, ◌≡◌, ℕ, zero, suc, ◌+◌, ◌-◌, ◌^◌, ◌<◌, ◌≤◌, List, [], ◌∷◌, ◌++◌, length, get_or, map, Bool, refl, sym, ap}
+use Rattle.std.proofs.Common.{subst, ◌∙◌, arith, length-append, set, Some, None}
 use Rattle.std.specs.List.{flat_map, AllByRecursion}
 use Rattle.std.proofs.lemmas.List.{append-nil}
 use Rattle.std.proofs.lemmas.List.Concat.{flat_map-cons, flat_map-append}
@@ -9,52 +10,35 @@ use Rattle.choice_tree.specs.declared.question.Question.TheVariants as questions
 use Rattle.choice_tree.specs.declared.node.Node.{Node}
 use Rattle.choice_tree.specs.declared.node.Node.TheVariants.{Closed, Stuck, Solved, Left}
 use Rattle.choice_tree.specs.Nodes.{node_at, children_of, IsLeft, IsLeaf, IsChild, numbers_from}
-use Rattle.choice_tree.specs.Trees.{IsTree, preorder_below, preorder}
+use Rattle.choice_tree.specs.Trees.{IsTree, preorder}
 use Rattle.choice_tree.proofs.NodeLemmas.{length-numbers_from}
+use Rattle.choice_tree.proofs.OrderLemmas.{below, below_step}
 use Rattle.choice_tree.proofs.SplitLemmas.{split_is_tree, end_is_tree}
+use Rattle.answer_text.specs.Limits.{most_children}
 use Rattle.answer_text.specs.Nodes.{node_text, tree_text, IsNodeText}
 use Rattle.answer_read.specs.declared.row.Row.{Row}
 use Rattle.answer_read.specs.declared.row.Row.TheVariants as rows
 use Rattle.answer_read.specs.Trees.{arity, node_of, placed, grown, tree_of}
 use Rattle.answer_read.specs.Answers.{IsNumbered}
-use Rattle.answer_read.proofs.Items.{IsForest}
+use Rattle.field_reading.proofs.Items.{IsForest}
 use Rattle.answer_read.proofs.Rows.{row_text, IsRow}
 use Rattle.answer_read.proofs.NodeRows.{row_of, node_text_is, row_of_fits, arity_is, node_again, children_are, node_of_fits, line_text_is}
-use Rattle.answer_read.proofs.Growing.{rows_text, row_few, length_placed, placed_other, placed_same, Apart, Distinct, AreLeft, next_waiting, length_next, next_left, next_distinct, next_apart, new_numbers}
+use Rattle.answer_read.proofs.Growing.{rows_text, row_few, length_placed, placed_other, placed_same, Apart, Distinct, AreLeft, next_waiting, length_next}
+use Rattle.answer_read.proofs.Growing.{next_left, next_distinct, next_apart, new_numbers}
 
 -- ---- the preorder, node by node
-
-flat_map_same : (F G : ℕ → List ℕ) (xs : List ℕ) → ((m : ℕ) → m < length xs → F (get_or xs m 0) ≡ G (get_or xs m 0)) → flat_map F xs ≡ flat_map G xs
-flat_map_same F G [] h = refl
-flat_map_same F G (x ∷ xs) h =
-    let e : F x ≡ G x = h 0 (omega arith) in
-    let r : flat_map F xs ≡ flat_map G xs = flat_map_same F G xs (λ m lt. h (suc m) (omega arith)) in
-    flat_map-cons F x xs ∙ ap (λ (ys : List ℕ). ys ++ flat_map F xs) e ∙ ap (λ (ys : List ℕ). G x ++ ys) r ∙ sym (flat_map-cons G x xs)
-
--- each depth that is enough gives the same order
-enough : (nodes : List Node) → IsTree nodes → (f g i : ℕ) → i < length nodes → length nodes ≤ f + i → length nodes ≤ g + i → preorder_below f nodes i ≡ preorder_below g nodes i
-enough nodes tree zero g i lt p q = absurd (omega arith)
-enough nodes tree (suc f) zero i lt p q = absurd (omega arith)
-enough nodes tree (suc f) (suc g) i lt p q =
-    let cs = children_of (node_at nodes i) in
-    ap (λ (xs : List ℕ). i ∷ xs)
-    (flat_map_same (preorder_below f nodes) (preorder_below g nodes) cs
-    (λ m h.
-    let c = tree.later i m (get_or cs m 0) (record { there = h; child = refl }) in
-    enough nodes tree f g (get_or cs m 0) c.1 (omega (arith, c.0, p)) (omega (arith, c.0, q))))
-
-abbrev below : List Node → ℕ → List ℕ
-below nodes i = preorder_below (length nodes) nodes i
 
 -- what is below the nodes that wait
 abbrev all_below : List Node → List ℕ → List ℕ
 all_below nodes waiting = flat_map (below nodes) waiting
 
-below_first : (nodes : List Node) → IsTree nodes → (i : ℕ) (waiting : List ℕ) → i < length nodes → all_below nodes (i ∷ waiting) ≡ i ∷ all_below nodes (children_of (node_at nodes i) ++ waiting)
+below_first : (nodes : List Node) → IsTree nodes → (i : ℕ) (waiting : List ℕ) → i < length nodes
+    → all_below nodes (i ∷ waiting) ≡ i ∷ all_below nodes (children_of (node_at nodes i) ++ waiting)
 below_first nodes tree i waiting lt =
     let cs = children_of (node_at nodes i) in
-    let step : below nodes i ≡ i ∷ all_below nodes cs = enough nodes tree (length nodes) (suc (length nodes)) i lt (omega arith) (omega arith) in
-    flat_map-cons (below nodes) i waiting ∙ ap (λ (ys : List ℕ). ys ++ all_below nodes waiting) step ∙ ap (λ (ys : List ℕ). i ∷ ys) (sym (flat_map-append (below nodes) cs waiting))
+    let step : below nodes i ≡ i ∷ all_below nodes cs = below_step nodes tree i lt in
+    flat_map-cons (below nodes) i waiting ∙ ap (λ (ys : List ℕ). ys ++ all_below nodes waiting) step
+    ∙ ap (λ (ys : List ℕ). i ∷ ys) (sym (flat_map-append (below nodes) cs waiting))
 
 -- the nodes that wait, and all below them, are visited in this order
 abbrev pub Visits : List Node → List ℕ → List ℕ → Type 0
@@ -74,7 +58,9 @@ there_each nodes [] h = tt
 there_each nodes (x ∷ xs) h = (h 0 (omega arith), there_each nodes xs (λ m lt. h (suc m) (omega arith)))
 
 children_there : (nodes : List Node) (i : ℕ) → IsTree nodes → There nodes (children_of (node_at nodes i))
-children_there nodes i tree = there_each nodes (children_of (node_at nodes i)) (λ m lt. (tree.later i m (get_or (children_of (node_at nodes i)) m 0) (record { there = lt; child = refl })).1)
+children_there nodes i tree =
+    there_each nodes (children_of (node_at nodes i))
+    (λ m lt. (tree.later i m (get_or (children_of (node_at nodes i)) m 0) (record { there = lt; child = refl })).1)
 
 visits : (nodes : List Node) → IsTree nodes → (waiting order : List ℕ) → There nodes waiting → all_below nodes waiting ≡ order → Visits nodes waiting order
 visits nodes tree [] [] there e = refl
@@ -104,7 +90,8 @@ abbrev pub HaveLines : Bool → List Node → Type 0
 HaveLines single nodes = (i : ℕ) → i < length nodes → IsNodeText single (node_at nodes i)
 
 lines_fit : (single : Bool) (nodes : List Node) (waiting order : List ℕ) → HaveLines single nodes → Visits nodes waiting order
-    → IsForest arity (length waiting) (rows_in nodes order) × AllByRecursion (IsRow single) (rows_in nodes order) × (flat_map (λ i. node_text single (node_at nodes i)) order ≡ rows_text single (rows_in nodes order))
+    → IsForest arity (length waiting) (rows_in nodes order) × AllByRecursion (IsRow single) (rows_in nodes order) ×
+    (flat_map (λ i. node_text single (node_at nodes i)) order ≡ rows_text single (rows_in nodes order))
 lines_fit single nodes [] [] fits v = (tt, tt, refl)
 lines_fit single nodes (i ∷ waiting) [] fits v = absurd (cc)
 lines_fit single nodes [] (x ∷ order) fits v = absurd v
@@ -113,7 +100,8 @@ lines_fit single nodes (i ∷ waiting) (x ∷ order) fits v =
     let r = lines_fit single nodes (cs ++ waiting) order fits v.2 in
     let at_x : node_at nodes x ≡ node_at nodes i = ap (node_at nodes) v.0 in
     let f : IsNodeText single (node_at nodes x) = subst (IsNodeText single) (sym at_x) (fits i v.1) in
-    let count : length (cs ++ waiting) ≡ length waiting + arity (row_of (node_at nodes x)) = omega (arith, length-append cs waiting, arity_is single (node_at nodes x) f, ap (λ (n : Node). length (children_of n)) at_x) in
+    let count : length (cs ++ waiting) ≡ length waiting + arity (row_of (node_at nodes x)) =
+    omega (arith, length-append cs waiting, arity_is single (node_at nodes x) f, ap (λ (n : Node). length (children_of n)) at_x) in
     let text : ℕ → List ℕ = λ j. node_text single (node_at nodes j) in (
       subst (λ (n : ℕ). IsForest arity n (rows_in nodes order)) count r.0,
       (row_of_fits single (node_at nodes x) f, r.1),
@@ -129,7 +117,8 @@ lines_are_rows single nodes tree fits = lines_fit single nodes (0 ∷ []) (preor
 
 -- ---- a tree that grew
 
-forest_behind : (nodes : List Node) (row : Row) (waiting : List ℕ) (rows : List Row) → IsForest arity (length waiting + arity row) rows → IsForest arity (length (next_waiting nodes row waiting)) rows
+forest_behind : (nodes : List Node) (row : Row) (waiting : List ℕ) (rows : List Row) → IsForest arity (length waiting + arity row) rows
+    → IsForest arity (length (next_waiting nodes row waiting)) rows
 forest_behind nodes row waiting rows f =
     let e : length waiting + arity row ≡ length (next_waiting nodes row waiting) = omega (arith, length_next nodes row waiting) in
     subst (λ (k : ℕ). IsForest arity k rows) e f
@@ -140,30 +129,41 @@ forest_count zero rows f = omega arith
 forest_count (suc n) [] f = absurd f
 forest_count (suc n) (row ∷ rows) f = omega (arith, forest_count (n + arity row) rows f)
 
-length_grown : (rows : List Row) (waiting : List ℕ) (nodes : List Node) → IsForest arity (length waiting) rows → length (grown rows waiting nodes) + length waiting ≡ length nodes + length rows
+length_grown : (rows : List Row) (waiting : List ℕ) (nodes : List Node) → IsForest arity (length waiting) rows
+    → length (grown rows waiting nodes) + length waiting ≡ length nodes + length rows
 unfolding grown
 length_grown [] [] nodes f = refl
 length_grown [] (i ∷ waiting) nodes f = absurd f
 length_grown (row ∷ rows) [] nodes f = absurd f
 length_grown (row ∷ rows) (i ∷ waiting) nodes f =
-    omega (arith, length_grown rows (next_waiting nodes row waiting) (placed nodes i row) (forest_behind nodes row waiting rows f), length_next nodes row waiting, length_placed nodes i row)
+    omega (
+      arith,
+      length_grown rows (next_waiting nodes row waiting) (placed nodes i row)
+          (forest_behind nodes row waiting rows f),
+      length_next nodes row waiting,
+      length_placed nodes i row,
+    )
 
 pub length_tree : (rows : List Row) → IsForest arity 1 rows → length (tree_of rows) ≡ length rows
 length_tree rows f = omega (arith, length_grown rows (0 ∷ []) (Left None ∷ []) f)
 
 -- a node that doesn't wait stays
-grown_other : (rows : List Row) (waiting : List ℕ) (nodes : List Node) (j : ℕ) → j < length nodes → Apart j waiting → node_at (grown rows waiting nodes) j ≡ node_at nodes j
+grown_other : (rows : List Row) (waiting : List ℕ) (nodes : List Node) (j : ℕ) → j < length nodes → Apart j waiting
+    → node_at (grown rows waiting nodes) j ≡ node_at nodes j
 unfolding grown
 grown_other [] waiting nodes j lt f = refl
 grown_other (row ∷ rows) [] nodes j lt f = refl
 grown_other (row ∷ rows) (i ∷ waiting) nodes j lt f =
-    grown_other rows (next_waiting nodes row waiting) (placed nodes i row) j (omega (arith, lt, length_placed nodes i row)) (next_apart nodes j row waiting lt f.1)
+    grown_other rows (next_waiting nodes row waiting) (placed nodes i row) j (omega (arith, lt, length_placed nodes i row))
+    (next_apart nodes j row waiting lt f.1)
     ∙ placed_other nodes i j row lt f.0
 
-ended_tree : (nodes : List Node) (i : ℕ) (leaf : Node) → IsTree nodes → i < length nodes → IsLeft (node_at nodes i) → IsLeaf leaf → IsTree (set nodes i leaf ++ [])
+ended_tree : (nodes : List Node) (i : ℕ) (leaf : Node) → IsTree nodes → i < length nodes → IsLeft (node_at nodes i) → IsLeaf leaf
+    → IsTree (set nodes i leaf ++ [])
 ended_tree nodes i leaf tree lt left f = subst IsTree (sym (append-nil (set nodes i leaf))) (end_is_tree nodes i leaf tree lt left f)
 
-placed_is_tree : (nodes : List Node) (i : ℕ) (row : Row) → IsTree nodes → i < length nodes → IsLeft (node_at nodes i) → arity row ≤ 6 → length nodes + arity row < 2 ^ 32 → IsTree (placed nodes i row)
+placed_is_tree : (nodes : List Node) (i : ℕ) (row : Row) → IsTree nodes → i < length nodes → IsLeft (node_at nodes i) → arity row ≤ most_children
+    → length nodes + arity row < 2 ^ 32 → IsTree (placed nodes i row)
 placed_is_tree nodes i (rows.Choose v m) tree lt left few room = split_is_tree nodes i (questions.Choose v) m [] tree lt left few room
 placed_is_tree nodes i (rows.TankOrder a b q) tree lt left few room = split_is_tree nodes i (questions.TankOrder a b q) 2 [] tree lt left few room
 placed_is_tree nodes i (rows.HoistOrder a b q) tree lt left few room = split_is_tree nodes i (questions.HoistOrder a b q) 2 [] tree lt left few room
@@ -174,7 +174,8 @@ placed_is_tree nodes i (rows.Stuck m) tree lt left few room = ended_tree nodes i
 placed_is_tree nodes i (rows.Solved low) tree lt left few room = ended_tree nodes i (Solved low) tree lt left tt
 placed_is_tree nodes i (rows.Left low) tree lt left few room = ended_tree nodes i (Left low) tree lt left tt
 
-grown_is_tree : (single : Bool) (rows : List Row) (waiting : List ℕ) (nodes : List Node) → IsForest arity (length waiting) rows → AllByRecursion (IsRow single) rows → IsTree nodes → AreLeft nodes waiting → Distinct waiting
+grown_is_tree : (single : Bool) (rows : List Row) (waiting : List ℕ) (nodes : List Node) → IsForest arity (length waiting) rows
+    → AllByRecursion (IsRow single) rows → IsTree nodes → AreLeft nodes waiting → Distinct waiting
     → length nodes + length rows < 2 ^ 32 + length waiting → IsTree (grown rows waiting nodes)
 unfolding grown
 grown_is_tree single [] waiting nodes f g tree left distinct room = tree
@@ -216,8 +217,10 @@ numbers_split a (suc m) k =
     let b : a + 1 + m ≡ a + suc m = omega arith in
     ap (numbers_from a) e ∙ ap (λ (xs : List ℕ). a ∷ xs) (numbers_split (a + 1) m k) ∙ ap (λ (n : ℕ). a ∷ (numbers_from (a + 1) m ++ numbers_from n k)) b
 
-grown_again : (single : Bool) (final : List Node) (rows : List Row) (waiting order : List ℕ) (nodes : List Node) → final ≡ grown rows waiting nodes → IsForest arity (length waiting) rows → AreLeft nodes waiting → Distinct waiting → Visits final waiting order
-    → (flat_map (λ i. node_text single (node_at final i)) order ≡ rows_text single rows) × (flat_map (λ i. children_of (node_at final i)) order ≡ numbers_from (length nodes) (length final - length nodes))
+grown_again : (single : Bool) (final : List Node) (rows : List Row) (waiting order : List ℕ) (nodes : List Node) → final ≡ grown rows waiting nodes
+    → IsForest arity (length waiting) rows → AreLeft nodes waiting → Distinct waiting → Visits final waiting order
+    → (flat_map (λ i. node_text single (node_at final i)) order ≡ rows_text single rows) ×
+    (flat_map (λ i. children_of (node_at final i)) order ≡ numbers_from (length nodes) (length final - length nodes))
 unfolding grown
 grown_again single final [] [] [] nodes is f left distinct v =
     let e : length final - length nodes ≡ 0 = omega (arith, ap length is) in
@@ -232,12 +235,16 @@ grown_again single final (row ∷ rows) (i ∷ waiting) (x ∷ order) nodes is f
     let after = placed nodes i row in
     let more = forest_behind nodes row waiting rows f in
     let here : node_at final i ≡ node_of row n =
-    ap (λ (t : List Node). node_at t i) is ∙ grown_other rows next after i (omega (arith, left.0.0, length_placed nodes i row)) (next_apart nodes i row waiting left.0.0 distinct.0) ∙ placed_same nodes i row left.0.0 in
+    ap (λ (t : List Node). node_at t i) is ∙ grown_other rows next after i (omega (arith, left.0.0, length_placed nodes i row))
+    (next_apart nodes i row waiting left.0.0 distinct.0) ∙ placed_same nodes i row left.0.0 in
     let at_x : node_at final x ≡ node_of row n = ap (node_at final) v.0 ∙ here in
     let kids : children_of (node_at final i) ≡ numbers_from n (arity row) = ap children_of here ∙ children_are row n in
     let behind : Visits final next order = subst (λ (cs : List ℕ). Visits final (cs ++ waiting) order) kids v.2 in
-    let r = grown_again single final rows next order after is more (next_left nodes i row waiting left.1 distinct.0) (next_distinct nodes row waiting left.1 distinct.1) behind in
-    let size : length final + length next ≡ length after + length rows = ap (λ (t : List Node). length t + length next) is ∙ length_grown rows next after more in
+    let r =
+    grown_again single final rows next order after is more (next_left nodes i row waiting left.1 distinct.0)
+    (next_distinct nodes row waiting left.1 distinct.1) behind in
+    let size : length final + length next ≡ length after + length rows =
+    ap (λ (t : List Node). length t + length next) is ∙ length_grown rows next after more in
     let grew : length after ≡ n + arity row = length_placed nodes i row in
     let split : length final - n ≡ arity row + (length final - length after) = omega (arith, size, grew, forest_count (length next) rows more) in (
       flat_map-cons (λ j. node_text single (node_at final j)) x order
@@ -249,8 +256,11 @@ grown_again single final (row ∷ rows) (i ∷ waiting) (x ∷ order) nodes is f
           ∙ sym (numbers_split n (arity row) (length final - length after)) ∙ ap (numbers_from n) (sym split),
     )
 
-pub tree_again : (single : Bool) (rows : List Row) → IsForest arity 1 rows → IsTree (tree_of rows) → (tree_text single (tree_of rows) ≡ rows_text single rows) × IsNumbered (tree_of rows)
-tree_again single rows f tree = grown_again single (tree_of rows) rows (0 ∷ []) (preorder (tree_of rows)) (Left None ∷ []) refl f ((omega arith, tt), tt) (tt, tt) (visits_all (tree_of rows) tree)
+pub tree_again : (single : Bool) (rows : List Row) → IsForest arity 1 rows → IsTree (tree_of rows)
+    → (tree_text single (tree_of rows) ≡ rows_text single rows) × IsNumbered (tree_of rows)
+tree_again single rows f tree =
+    grown_again single (tree_of rows) rows (0 ∷ []) (preorder (tree_of rows)) (Left None ∷ []) refl f ((omega arith, tt), tt) (tt, tt)
+    (visits_all (tree_of rows) tree)
 
 -- ---- nodes that wait, or are done
 
@@ -274,7 +284,8 @@ abbrev DoneOrWaits : (ℕ → Node → Type 0) → List Node → List ℕ → Ty
 DoneOrWaits P nodes waiting = (j : ℕ) → j < length nodes → Waits j waiting ⊎ P j (node_at nodes j)
 
 -- after one line more
-done_next : (P : ℕ → Node → Type 0) (nodes : List Node) (i : ℕ) (row : Row) (waiting : List ℕ) → i < length nodes → P i (node_of row (length nodes)) → DoneOrWaits P nodes (i ∷ waiting) → DoneOrWaits P (placed nodes i row) (next_waiting nodes row waiting)
+done_next : (P : ℕ → Node → Type 0) (nodes : List Node) (i : ℕ) (row : Row) (waiting : List ℕ) → i < length nodes → P i (node_of row (length nodes))
+    → DoneOrWaits P nodes (i ∷ waiting) → DoneOrWaits P (placed nodes i row) (next_waiting nodes row waiting)
 done_next P nodes i row waiting lt p h j there =
     ⊎_elim
     (λ e. inr (subst (λ (k : ℕ). P k (node_at (placed nodes i row) k)) (sym e) (subst (P i) (sym (placed_same nodes i row lt)) p)))
@@ -285,18 +296,21 @@ done_next P nodes i row waiting lt p h j there =
     (λ w. ⊎_elim (λ e. absurd (ne e)) (λ v. inl (waits_right j (numbers_from (length nodes) (arity row)) waiting v)) w)
     (λ q. inr (subst (P j) (sym (placed_other nodes i j row old ne)) q))
     (h j old))
-    (λ past. inl (waits_left j (numbers_from (length nodes) (arity row)) waiting (new_waits (length nodes) (arity row) j past (omega (arith, there, length_placed nodes i row)))))
+    (λ past. inl (waits_left j (numbers_from (length nodes) (arity row)) waiting
+    (new_waits (length nodes) (arity row) j past (omega (arith, there, length_placed nodes i row)))))
     (cases_lt j (length nodes)))
     (cases_eq j i)
 
-all_done : (single : Bool) (rows : List Row) (waiting : List ℕ) (nodes : List Node) → IsForest arity (length waiting) rows → AllByRecursion (IsRow single) rows → AreLeft nodes waiting → Distinct waiting → DoneOrWaits (λ j. IsNodeText single) nodes waiting
+all_done : (single : Bool) (rows : List Row) (waiting : List ℕ) (nodes : List Node) → IsForest arity (length waiting) rows → AllByRecursion (IsRow single) rows
+    → AreLeft nodes waiting → Distinct waiting → DoneOrWaits (λ j. IsNodeText single) nodes waiting
     → HaveLines single (grown rows waiting nodes)
 unfolding grown
 all_done single [] [] nodes f g left distinct h = λ i lt. ⊎_elim (λ w. absurd w) (λ p. p) (h i lt)
 all_done single [] (i ∷ waiting) nodes f g left distinct h = absurd f
 all_done single (row ∷ rows) [] nodes f g left distinct h = absurd f
 all_done single (row ∷ rows) (i ∷ waiting) nodes f g left distinct h =
-    all_done single rows (next_waiting nodes row waiting) (placed nodes i row) (forest_behind nodes row waiting rows f) g.1 (next_left nodes i row waiting left.1 distinct.0) (next_distinct nodes row waiting left.1 distinct.1)
+    all_done single rows (next_waiting nodes row waiting) (placed nodes i row) (forest_behind nodes row waiting rows f) g.1
+    (next_left nodes i row waiting left.1 distinct.0) (next_distinct nodes row waiting left.1 distinct.1)
     (done_next (λ j. IsNodeText single) nodes i row waiting left.0.0 (node_of_fits single row (length nodes) g.0) h)
 
 first_waits : (P : ℕ → Node → Type 0) → DoneOrWaits P (Left None ∷ []) (0 ∷ [])
@@ -307,7 +321,8 @@ tree_has_lines single rows f g = all_done single rows (0 ∷ []) (Left None ∷ 
 
 -- ---- a numbered tree grew from its lines
 
-numbers_cut : (xs ys : List ℕ) (a n : ℕ) → xs ++ ys ≡ numbers_from a n → (xs ≡ numbers_from a (length xs)) × (ys ≡ numbers_from (a + length xs) (n - length xs)) × (length xs ≤ n)
+numbers_cut : (xs ys : List ℕ) (a n : ℕ) → xs ++ ys ≡ numbers_from a n
+    → (xs ≡ numbers_from a (length xs)) × (ys ≡ numbers_from (a + length xs) (n - length xs)) × (length xs ≤ n)
 numbers_cut [] ys a n e =
     let z : a ≡ a + 0 = omega arith in
     let m : n ≡ n - 0 = omega arith in
@@ -318,8 +333,12 @@ numbers_cut (x ∷ xs) ys a (suc n) e =
     let tail : xs ++ ys ≡ numbers_from (a + 1) n = cc in
     let r = numbers_cut xs ys (a + 1) n tail in
     let b : a + 1 + length xs ≡ a + suc (length xs) = omega arith in
-    let m : n - length xs ≡ suc n - suc (length xs) = omega arith in
-    (ap (λ (k : ℕ). k ∷ xs) head ∙ ap (λ (ks : List ℕ). a ∷ ks) r.0, r.1 ∙ ap (λ (k : ℕ). numbers_from k (n - length xs)) b ∙ ap (numbers_from (a + suc (length xs))) m, omega (arith, r.2))
+    let m : n - length xs ≡ suc n - suc (length xs) = omega arith in (
+      ap (λ (k : ℕ). k ∷ xs) head ∙ ap (λ (ks : List ℕ). a ∷ ks) r.0,
+      r.1 ∙ ap (λ (k : ℕ). numbers_from k (n - length xs)) b
+          ∙ ap (numbers_from (a + suc (length xs))) m,
+      omega (arith, r.2),
+    )
 
 -- lists that agree everywhere
 same_list : (xs ys : List Node) → length xs ≡ length ys → ((j : ℕ) → j < length xs → node_at xs j ≡ node_at ys j) → xs ≡ ys
@@ -337,19 +356,23 @@ below_next : (nodes : List Node) (i : ℕ) (row : Row) (waiting : List ℕ) → 
 below_next nodes i row waiting there =
     let n = length_placed nodes i row in
     there_append (placed nodes i row) (numbers_from (length nodes) (arity row)) waiting
-    (weaken (λ j. (length nodes ≤ j) × (j < length nodes + arity row)) (numbers_from (length nodes) (arity row)) (λ j f. omega (arith, f.1, n)) (new_numbers (length nodes) (arity row)))
+    (weaken (λ j. (length nodes ≤ j) × (j < length nodes + arity row)) (numbers_from (length nodes) (arity row)) (λ j f. omega (arith, f.1, n))
+    (new_numbers (length nodes) (arity row)))
     (weaken (λ j. j < length nodes) waiting (λ j f. omega (arith, f, n)) there)
   where
     weaken : (P : ℕ → Type 0) (xs : List ℕ) → ((j : ℕ) → P j → j < length (placed nodes i row)) → AllByRecursion P xs → There (placed nodes i row) xs
     weaken P [] h f = tt
     weaken P (x ∷ xs) h f = (h x f.0, weaken P xs h f.1)
 
-grew_from_lines : (single : Bool) (nodes : List Node) (waiting order : List ℕ) (so_far : List Node) → HaveLines single nodes → Visits nodes waiting order → There so_far waiting → length so_far ≤ length nodes
-    → flat_map (λ i. children_of (node_at nodes i)) order ≡ numbers_from (length so_far) (length nodes - length so_far) → DoneOrWaits (Same nodes) so_far waiting
+grew_from_lines : (single : Bool) (nodes : List Node) (waiting order : List ℕ) (so_far : List Node) → HaveLines single nodes → Visits nodes waiting order
+    → There so_far waiting → length so_far ≤ length nodes
+    → flat_map (λ i. children_of (node_at nodes i)) order ≡ numbers_from (length so_far) (length nodes - length so_far)
+    → DoneOrWaits (Same nodes) so_far waiting
     → grown (rows_in nodes order) waiting so_far ≡ nodes
 unfolding grown
 grew_from_lines single nodes [] [] so_far fits v there le e h =
-    same_list so_far nodes (omega (arith, le, ap length e, length-numbers_from (length so_far) (length nodes - length so_far))) (λ j lt. ⊎_elim (λ w. absurd w) (λ p. p) (h j lt))
+    same_list so_far nodes (omega (arith, le, ap length e, length-numbers_from (length so_far) (length nodes - length so_far)))
+    (λ j lt. ⊎_elim (λ w. absurd w) (λ p. p) (h j lt))
 grew_from_lines single nodes (i ∷ waiting) [] so_far fits v there le e h = absurd (cc)
 grew_from_lines single nodes [] (x ∷ order) so_far fits v there le e h = absurd v
 grew_from_lines single nodes (i ∷ waiting) (x ∷ order) so_far fits v there le e h =
@@ -358,7 +381,9 @@ grew_from_lines single nodes (i ∷ waiting) (x ∷ order) so_far fits v there l
     let row : Row = row_of (node_at nodes x) in
     let f : IsNodeText single (node_at nodes x) = subst (IsNodeText single) (sym at_x) (fits i v.1) in
     let cs : List ℕ = children_of (node_at nodes x) in
-    let cut = numbers_cut cs (flat_map (λ j. children_of (node_at nodes j)) order) n (length nodes - n) (sym (flat_map-cons (λ j. children_of (node_at nodes j)) x order) ∙ e) in
+    let cut =
+    numbers_cut cs (flat_map (λ j. children_of (node_at nodes j)) order) n (length nodes - n)
+    (sym (flat_map-cons (λ j. children_of (node_at nodes j)) x order) ∙ e) in
     let count : length cs ≡ arity row = sym (arity_is single (node_at nodes x) f) in
     let kids : cs ≡ numbers_from n (arity row) = cut.0 ∙ ap (numbers_from n) count in
     let kids_i : children_of (node_at nodes i) ≡ numbers_from n (arity row) = ap children_of (sym at_x) ∙ kids in
@@ -373,4 +398,5 @@ grew_from_lines single nodes (i ∷ waiting) (x ∷ order) so_far fits v there l
 
 pub tree_from_lines : (single : Bool) (nodes : List Node) → IsTree nodes → HaveLines single nodes → IsNumbered nodes → tree_of (lines_of nodes) ≡ nodes
 tree_from_lines single nodes tree fits numbered =
-    grew_from_lines single nodes (0 ∷ []) (preorder nodes) (Left None ∷ []) fits (visits_all nodes tree) (omega arith, tt) (omega (arith, tree.root)) numbered (first_waits (Same nodes))
+    grew_from_lines single nodes (0 ∷ []) (preorder nodes) (Left None ∷ []) fits (visits_all nodes tree) (omega arith, tt) (omega (arith, tree.root)) numbered
+    (first_waits (Same nodes))

@@ -1,11 +1,14 @@
 -- The lines of the tree are read as they are written.
-use Rattle.std.proofs.Common.{◌≡◌, ℕ, ◌≤◌, ℤ, pos, List, [], ◌∷◌, ◌++◌, length, codes, decimal, Bool, true, false, cond, eqb, Option, Some, None, inl, inr, Ok, refl, sym, ap, subst, ◌∙◌, append_assoc, arith}
+use Rattle.std.proofs.Common.{◌≡◌, ℕ, ◌≤◌, ℤ, pos, List, [], ◌∷◌, ◌++◌, length, codes, decimal, Bool, true, false, cond, eqb, Option, Some, None, inl, inr, Ok}
+use Rattle.std.proofs.Common.{refl, sym, ap, subst, ◌∙◌, append_assoc, arith}
 use Rattle.std.specs.Prelude.{unsigned_abs}
 use Rattle.std.specs.Fmt.{signed_decimal}
 use Rattle.std.specs.List.{flat_map}
 use Rattle.std.proofs.lemmas.Bool.{eqb-true, eqb-false}
 use Rattle.choice_tree.specs.declared.constraint.Constraint.{Constraint}
-use Rattle.answer_text.specs.Fields.{end, pair_text, walk_text, token_text, IsPair, IsWalk}
+use Rattle.text_writing.specs.Texts.{end, pair_text}
+use Rattle.answer_text.specs.Limits.{most_stage, most_tokens, most_children, most_shift}
+use Rattle.answer_text.specs.Fields.{walk_text, token_text, IsPair, IsWalk}
 use Rattle.answer_text.specs.Nodes.{high_text, stuck_text, left_text, IsWalkOr, IsStuckText}
 use Rattle.answer_read.specs.declared.row.Row.{Row}
 use Rattle.answer_read.specs.declared.row.Row.TheVariants as rows
@@ -13,12 +16,14 @@ use Rattle.answer_read.specs.declared.row.RowKind.{RowKind}
 use Rattle.answer_read.specs.declared.row.RowKind.TheVariants as lines
 use Rattle.answer_read.specs.declared.row.Tail.{Tail}
 use Rattle.answer_read.specs.declared.row.Tail.TheVariants as tails
-use Rattle.answer_read.specs.Reading.{◌>>=◌, word_at, number_at, signed_at, kind_at, begins, both_at, next_at, ended}
-use Rattle.answer_read.specs.Lines.{row_word, row_kinds, single_kinds, all_kinds, visit_of, move_of, pair_at, walk_at, walk_line_at, counted_at, order_at, tail_word, tail_kinds, tail_rest, tail_at, stuck_at, left_at, row_rest, row_at}
-use Rattle.answer_read.proofs.Field.{SameHead, Reads, then_reads, word_reads, made_reads, done_reads, retext, narrow_reads}
-use Rattle.answer_read.proofs.Numbers.{NoDigit, InRange, number_read, begins_number}
-use Rattle.answer_read.proofs.Signed.{IsSmall, signed_read}
-use Rattle.answer_read.proofs.Words.{Any, In, AreApart, kind_read, apart_is, worded_reads, both_reads, next_reads}
+use Rattle.field_reading.specs.Reading.{◌>>=◌, word_at, number_at, signed_at, kind_at, begins, both_at, next_at, ended}
+use Rattle.answer_read.specs.Lines.{row_word, row_kinds, single_kinds, all_kinds, visit_of, move_of, pair_at, walk_at, walk_line_at, counted_at, order_at}
+use Rattle.answer_read.specs.Lines.{tail_word, tail_kinds, tail_rest, tail_at, stuck_at, left_at, row_rest, row_at}
+use Rattle.field_reading.specs.Reads.{SameHead, Reads, NoDigit, InRange, IsSmall, Any, In, AreApart}
+use Rattle.field_reading.proofs.Field.{then_reads, word_reads, made_reads, done_reads, retext, narrow_reads}
+use Rattle.field_reading.proofs.Numbers.{number_read, begins_number}
+use Rattle.field_reading.proofs.SignedNumbers.{signed_read}
+use Rattle.field_reading.proofs.Words.{kind_read, apart_is, worded_reads, both_reads, next_reads}
 use Rattle.answer_read.proofs.Walks.{FitsPair, text_of_pair, pair_read, walk_read, a_walk, walk_line, walk_line_read}
 
 -- ---- what stands behind a low walk
@@ -51,7 +56,8 @@ some_tail tails.High = (Some a_walk.0, a_walk.1, refl)
 tail_rest_read : (k : Tail) (bytes : List ℕ) → Reads (λ o. IsWalkOr o × (tail_of o ≡ k)) after_tail Any bytes (tail_rest k bytes)
 unfolding tail_rest
 tail_rest_read tails.End bytes =
-    retext (λ o. IsWalkOr o × (tail_of o ≡ tails.End)) (λ o. []) after_tail Any bytes (Ok (None, bytes)) texts (done_reads (λ o. IsWalkOr o × (tail_of o ≡ tails.End)) Any bytes None (tt, refl) only)
+    retext (λ o. IsWalkOr o × (tail_of o ≡ tails.End)) (λ o. []) after_tail Any bytes (Ok (None, bytes)) texts
+    (done_reads (λ o. IsWalkOr o × (tail_of o ≡ tails.End)) Any bytes None (tt, refl) only)
   where
     texts : (o : Option (List Constraint)) → IsWalkOr o × (tail_of o ≡ tails.End) → [] ≡ after_tail o
     texts None f = refl
@@ -61,9 +67,11 @@ tail_rest_read tails.End bytes =
     only None f = refl
     only (Some w) f = let e = f.1 in absurd cc
 tail_rest_read tails.High bytes =
-    made_reads IsWalk walk_line (λ o. IsWalkOr o × (tail_of o ≡ tails.High)) after_tail Any (λ w. Some w) bytes (walk_line_at bytes) (λ w f. ((f, refl), refl)) from (walk_line_read bytes)
+    made_reads IsWalk walk_line (λ o. IsWalkOr o × (tail_of o ≡ tails.High)) after_tail Any (λ w. Some w) bytes (walk_line_at bytes)
+    (λ w f. ((f, refl), refl)) from (walk_line_read bytes)
   where
-    from : (o : Option (List Constraint)) (t : List ℕ) → IsWalkOr o × (tail_of o ≡ tails.High) → Any t → SameHead (after_tail o ++ t) bytes → (w : List Constraint) × IsWalk w × (Some w ≡ o)
+    from : (o : Option (List Constraint)) (t : List ℕ) → IsWalkOr o × (tail_of o ≡ tails.High) → Any t → SameHead (after_tail o ++ t) bytes
+        → (w : List Constraint) × IsWalk w × (Some w ≡ o)
     from (Some w) t f s h = (w, f.0, refl)
     from None t f s h = let e = f.1 in absurd cc
 
@@ -88,20 +96,25 @@ not_n (b ∷ bytes) t h d = eqb-false b 110 d (sym h)
 none_or_walk : (bytes : List ℕ) (d : Bool) → begins 110 bytes ≡ d
     → Reads IsWalkOr left_text Any bytes (cond d (word_at (codes "none\n") bytes >>= λ rest. Ok (None, rest)) (walk_line_at bytes >>= λ x. Ok (Some x.0, x.1)))
 none_or_walk bytes true d =
-    narrow_reads (λ o. o ≡ None) IsWalkOr left_text Any bytes (word_at (codes "none\n") bytes >>= λ rest. Ok (None, rest)) (λ o e. subst IsWalkOr (sym e) tt) from
-    (word_reads (λ o. o ≡ None) left_text (λ o. []) Any (codes "none\n") bytes (λ rest. Ok (None, rest)) None refl (λ o e. ap left_text e) (λ rest e. done_reads (λ o. o ≡ None) Any rest None refl (λ o e. e)))
+    narrow_reads (λ o. o ≡ None) IsWalkOr left_text Any bytes (word_at (codes "none\n") bytes >>= λ rest. Ok (None, rest))
+    (λ o e. subst IsWalkOr (sym e) tt) from
+    (word_reads (λ o. o ≡ None) left_text (λ o. []) Any (codes "none\n") bytes (λ rest. Ok (None, rest)) None refl (λ o e. ap left_text e)
+    (λ rest e. done_reads (λ o. o ≡ None) Any rest None refl (λ o e. e)))
   where
     from : (o : Option (List Constraint)) (t : List ℕ) → IsWalkOr o → Any t → SameHead (left_text o ++ t) bytes → o ≡ None
     from None t f s h = refl
     from (Some w) t f s h =
         let regrouped : (walk_text w ++ end) ++ t ≡ decimal (length w) ++ ((flat_map token_text w ++ end) ++ t) = simp append_assoc in
-        let c = begins_number 1 1000 (length w) ((flat_map token_text w ++ end) ++ t) bytes (omega arith) (omega arith) (f.some, f.few) (subst (λ (l : List ℕ). SameHead l bytes) regrouped h) in
+        let c =
+        begins_number 1 most_tokens (length w) ((flat_map token_text w ++ end) ++ t) bytes (omega arith) (omega arith) (f.some, f.few)
+        (subst (λ (l : List ℕ). SameHead l bytes) regrouped h) in
         let e : eqb c.0 110 ≡ true = ap (begins 110) (sym c.2) ∙ d in
         absurd (omega (arith, eqb-true c.0 110 e, c.4))
 none_or_walk bytes false d =
     made_reads IsWalk walk_line IsWalkOr left_text Any (λ w. Some w) bytes (walk_line_at bytes) (λ w f. (f, refl)) from (walk_line_read bytes)
   where
-    from : (o : Option (List Constraint)) (t : List ℕ) → IsWalkOr o → Any t → SameHead (left_text o ++ t) bytes → (w : List Constraint) × IsWalk w × (Some w ≡ o)
+    from : (o : Option (List Constraint)) (t : List ℕ) → IsWalkOr o → Any t → SameHead (left_text o ++ t) bytes
+        → (w : List Constraint) × IsWalk w × (Some w ≡ o)
     from (Some w) t f s h = (w, f, refl)
     from None t f s h = absurd (not_n bytes t h d)
 
@@ -112,7 +125,7 @@ left_read bytes = none_or_walk bytes (begins 110 bytes) refl
 -- ---- the other ends of lines
 
 abbrev FitsCounted : (ℕ × ℕ) × ℕ → Type 0
-FitsCounted p = FitsPair p.0 × InRange 0 6 p.1
+FitsCounted p = FitsPair p.0 × InRange 0 most_children p.1
 
 abbrev counted_text : (ℕ × ℕ) × ℕ → List ℕ
 counted_text p = pair_text p.0.0 p.0.1 ++ (codes " " ++ (decimal p.1 ++ end))
@@ -120,17 +133,20 @@ counted_text p = pair_text p.0.0 p.0.1 ++ (codes " " ++ (decimal p.1 ++ end))
 counted_read : (bytes : List ℕ) → Reads FitsCounted counted_text Any bytes (counted_at bytes)
 unfolding counted_at
 counted_read bytes =
-    retext FitsCounted (λ p. (text_of_pair p.0 ++ (codes " " ++ decimal p.1)) ++ end) counted_text Any bytes (ended (both_at pair_at (codes " ") (number_at 0 6) bytes))
+    retext FitsCounted (λ p. (text_of_pair p.0 ++ (codes " " ++ decimal p.1)) ++ end) counted_text Any bytes
+    (ended (both_at pair_at (codes " ") (number_at 0 most_children) bytes))
     (λ p f. simp append_assoc)
-    (worded_reads FitsCounted (λ p. text_of_pair p.0 ++ (codes " " ++ decimal p.1)) NoDigit end (λ t. refl) bytes (both_at pair_at (codes " ") (number_at 0 6) bytes)
-    (both_reads FitsPair text_of_pair NoDigit pair_at (codes " ") (InRange 0 6) decimal NoDigit (number_at 0 6) 0 (omega arith, omega arith) (λ m t f s. refl)
-    pair_read (λ b. number_read 0 6 b (omega arith) (omega arith) (omega arith)) bytes))
+    (worded_reads FitsCounted (λ p. text_of_pair p.0 ++ (codes " " ++ decimal p.1)) NoDigit end (λ t. refl) bytes
+    (both_at pair_at (codes " ") (number_at 0 most_children) bytes)
+    (both_reads FitsPair text_of_pair NoDigit pair_at (codes " ") (InRange 0 most_children) decimal NoDigit (number_at 0 most_children) 0
+    (omega arith, omega arith) (λ m t f s. refl)
+    pair_read (λ b. number_read 0 most_children b (omega arith) (omega arith) (omega arith)) bytes))
 
 abbrev Order : Type 0
 Order = ((ℕ × ℕ) × (ℕ × ℕ)) × ℤ
 
 abbrev FitsOrder : Order → Type 0
-FitsOrder p = (FitsPair p.0.0 × FitsPair p.0.1) × IsSmall 1000000000 p.1
+FitsOrder p = (FitsPair p.0.0 × FitsPair p.0.1) × IsSmall most_shift p.1
 
 abbrev order_text : Order → List ℕ
 order_text p = pair_text p.0.0.0 p.0.0.1 ++ (codes " " ++ (pair_text p.0.1.0 p.0.1.1 ++ (codes " " ++ (signed_decimal p.1 ++ end))))
@@ -141,12 +157,16 @@ two_pairs p = text_of_pair p.0 ++ (codes " " ++ text_of_pair p.1)
 order_read : (bytes : List ℕ) → Reads FitsOrder order_text Any bytes (order_at bytes)
 unfolding order_at
 order_read bytes =
-    retext FitsOrder (λ p. (two_pairs p.0 ++ (codes " " ++ signed_decimal p.1)) ++ end) order_text Any bytes (ended (both_at (λ b. both_at pair_at (codes " ") pair_at b) (codes " ") (signed_at 1000000000) bytes))
+    retext FitsOrder (λ p. (two_pairs p.0 ++ (codes " " ++ signed_decimal p.1)) ++ end) order_text Any bytes
+    (ended (both_at (λ b. both_at pair_at (codes " ") pair_at b) (codes " ") (signed_at most_shift) bytes))
     (λ p f. simp append_assoc)
-    (worded_reads FitsOrder (λ p. two_pairs p.0 ++ (codes " " ++ signed_decimal p.1)) NoDigit end (λ t. refl) bytes (both_at (λ b. both_at pair_at (codes " ") pair_at b) (codes " ") (signed_at 1000000000) bytes)
-    (both_reads (λ p. FitsPair p.0 × FitsPair p.1) two_pairs NoDigit (λ b. both_at pair_at (codes " ") pair_at b) (codes " ") (IsSmall 1000000000) signed_decimal NoDigit (signed_at 1000000000) (pos 0) (omega arith) (λ q t f s. refl)
-    (λ b. both_reads FitsPair text_of_pair NoDigit pair_at (codes " ") FitsPair text_of_pair NoDigit pair_at (0, 0) ((omega arith, omega arith), (omega arith, omega arith)) (λ m t f s. refl) pair_read pair_read b)
-    (λ b. signed_read 1000000000 b (omega arith) (omega arith)) bytes))
+    (worded_reads FitsOrder (λ p. two_pairs p.0 ++ (codes " " ++ signed_decimal p.1)) NoDigit end (λ t. refl) bytes
+    (both_at (λ b. both_at pair_at (codes " ") pair_at b) (codes " ") (signed_at most_shift) bytes)
+    (both_reads (λ p. FitsPair p.0 × FitsPair p.1) two_pairs NoDigit (λ b. both_at pair_at (codes " ") pair_at b) (codes " ")
+    (IsSmall most_shift) signed_decimal NoDigit (signed_at most_shift) (pos 0) (omega arith) (λ q t f s. refl)
+    (λ b. both_reads FitsPair text_of_pair NoDigit pair_at (codes " ") FitsPair text_of_pair NoDigit pair_at (0, 0)
+    ((omega arith, omega arith), (omega arith, omega arith)) (λ m t f s. refl) pair_read pair_read b)
+    (λ b. signed_read most_shift b (omega arith) (omega arith)) bytes))
 
 abbrev FitsStuck : Bool → ℕ × ℕ → Type 0
 FitsStuck single p = IsStuckText single p.0 p.1
@@ -154,16 +174,21 @@ FitsStuck single p = IsStuckText single p.0 p.1
 stuck_read : (single : Bool) (bytes : List ℕ) → Reads (FitsStuck single) (λ p. stuck_text single p.0 p.1) Any bytes (stuck_at single bytes)
 unfolding stuck_at
 stuck_read true bytes =
-    made_reads (InRange 0 32) (λ k. decimal k ++ end) (FitsStuck true) (λ p. decimal p.1 ++ end) Any (λ k. (0, k)) bytes (ended (number_at 0 32 bytes)) (λ k f. ((refl, f.1), refl)) from
-    (worded_reads (InRange 0 32) decimal NoDigit end (λ t. refl) bytes (number_at 0 32 bytes) (number_read 0 32 bytes (omega arith) (omega arith) (omega arith)))
+    made_reads (InRange 0 most_stage) (λ k. decimal k ++ end) (FitsStuck true) (λ p. decimal p.1 ++ end) Any (λ k. (0, k)) bytes
+    (ended (number_at 0 most_stage bytes)) (λ k f. ((refl, f.1), refl)) from
+    (worded_reads (InRange 0 most_stage) decimal NoDigit end (λ t. refl) bytes (number_at 0 most_stage bytes)
+    (number_read 0 most_stage bytes (omega arith) (omega arith) (omega arith)))
   where
-    from : (p : ℕ × ℕ) (t : List ℕ) → FitsStuck true p → Any t → SameHead ((decimal p.1 ++ end) ++ t) bytes → (k : ℕ) × InRange 0 32 k × ((0, k) ≡ p)
+    from : (p : ℕ × ℕ) (t : List ℕ) → FitsStuck true p → Any t → SameHead ((decimal p.1 ++ end) ++ t) bytes → (k : ℕ) × InRange 0 most_stage k × ((0, k) ≡ p)
     from p t f s h = let e : 0 ≡ p.0 = sym f.0 in (p.1, (omega arith, f.1), ap (λ (c : ℕ). (c, p.1)) e)
 stuck_read false bytes =
     made_same (worded_reads FitsPair text_of_pair NoDigit end (λ t. refl) bytes (pair_at bytes) (pair_read bytes))
   where
-    made_same : Reads FitsPair (λ p. text_of_pair p ++ end) Any bytes (ended (pair_at bytes)) → Reads (FitsStuck false) (λ p. text_of_pair p ++ end) Any bytes (ended (pair_at bytes))
-    made_same h = narrow_reads FitsPair (FitsStuck false) (λ p. text_of_pair p ++ end) Any bytes (ended (pair_at bytes)) (λ p f. (f.0.1, f.1.1)) (λ p t f s head. ((omega arith, f.0), (omega arith, f.1))) h
+    made_same : Reads FitsPair (λ p. text_of_pair p ++ end) Any bytes (ended (pair_at bytes))
+        → Reads (FitsStuck false) (λ p. text_of_pair p ++ end) Any bytes (ended (pair_at bytes))
+    made_same h =
+        narrow_reads FitsPair (FitsStuck false) (λ p. text_of_pair p ++ end) Any bytes (ended (pair_at bytes)) (λ p f. (f.0.1, f.1.1))
+        (λ p t f s head. ((omega arith, f.0), (omega arith, f.1))) h
 
 -- ---- a line
 
@@ -195,10 +220,10 @@ row_text single r = row_word (kind_of r) ++ row_after single r
 
 -- the lines that a text may have
 abbrev pub IsRow : Bool → Row → Type 0
-IsRow single (rows.Choose v m) = (single ≡ false) × IsPair v.carrier v.stage × (m ≤ 6)
-IsRow single (rows.TankOrder a b q) = IsPair a.carrier a.stage × IsPair b.carrier b.stage × (unsigned_abs q ≤ 1000000000)
-IsRow single (rows.HoistOrder a b q) = IsPair a.carrier a.step × IsPair b.carrier b.step × (unsigned_abs q ≤ 1000000000)
-IsRow single (rows.Assign m n) = IsPair m.carrier m.step × (n ≤ 6)
+IsRow single (rows.Choose v m) = (single ≡ false) × IsPair v.carrier v.stage × (m ≤ most_children)
+IsRow single (rows.TankOrder a b q) = IsPair a.carrier a.stage × IsPair b.carrier b.stage × (unsigned_abs q ≤ most_shift)
+IsRow single (rows.HoistOrder a b q) = IsPair a.carrier a.step × IsPair b.carrier b.step × (unsigned_abs q ≤ most_shift)
+IsRow single (rows.Assign m n) = IsPair m.carrier m.step × (n ≤ most_children)
 IsRow single (rows.ClosedLow low high) = IsWalk low × IsWalkOr high
 IsRow single (rows.ClosedHigh high) = IsWalk high
 IsRow single (rows.Stuck m) = IsStuckText single m.carrier m.step
@@ -286,72 +311,94 @@ some_pair c k f = ((omega arith, f.0), (omega arith, f.1))
 pair_fits : (p : ℕ × ℕ) → FitsPair p → IsPair p.0 p.1
 pair_fits p f = (f.0.1, f.1.1)
 
-rest_read : (single : Bool) (k : RowKind) → In (row_kinds single) k → (bytes : List ℕ) → Reads (Line single k) (row_after single) Any bytes (row_rest single k bytes)
+rest_read : (single : Bool) (k : RowKind) → In (row_kinds single) k → (bytes : List ℕ)
+    → Reads (Line single k) (row_after single) Any bytes (row_rest single k bytes)
 unfolding row_rest
 rest_read true lines.Choose inside bytes = absurd (never_chosen_kind inside)
   where
     never_chosen_kind : In (row_kinds true) lines.Choose → ⊥
     never_chosen_kind f = let r = some_row true lines.Choose f in never_chosen r.0 r.1 r.2
 rest_read false lines.Choose inside bytes =
-    made_reads FitsCounted counted_text (Line false lines.Choose) (row_after false) Any (λ p. rows.Choose (visit_of p.0) p.1) bytes (counted_at bytes) (λ p f. (((refl, pair_fits p.0 f.0, f.1.1), refl), refl)) from (counted_read bytes)
+    made_reads FitsCounted counted_text (Line false lines.Choose) (row_after false) Any (λ p. rows.Choose (visit_of p.0) p.1) bytes (counted_at bytes)
+    (λ p f. (((refl, pair_fits p.0 f.0, f.1.1), refl), refl)) from (counted_read bytes)
   where
-    from : (r : Row) (t : List ℕ) → Line false lines.Choose r → Any t → SameHead (row_after false r ++ t) bytes → (p : (ℕ × ℕ) × ℕ) × FitsCounted p × (rows.Choose (visit_of p.0) p.1 ≡ r)
+    from : (r : Row) (t : List ℕ) → Line false lines.Choose r → Any t → SameHead (row_after false r ++ t) bytes
+        → (p : (ℕ × ℕ) × ℕ) × FitsCounted p × (rows.Choose (visit_of p.0) p.1 ≡ r)
     from (rows.Choose v m) t f s h = (((v.carrier, v.stage), m), (some_pair v.carrier v.stage f.0.1, (omega arith, f.0.2)), refl)
     from r t f s h = let e = f.1 in absurd cc
 rest_read single lines.TankOrder inside bytes =
-    made_reads FitsOrder order_text (Line single lines.TankOrder) (row_after single) Any (λ p. rows.TankOrder (visit_of p.0.0) (visit_of p.0.1) p.1) bytes (order_at bytes) (λ p f. (((pair_fits p.0.0 f.0.0, pair_fits p.0.1 f.0.1, f.1), refl), refl)) from (order_read bytes)
+    made_reads FitsOrder order_text (Line single lines.TankOrder) (row_after single) Any (λ p. rows.TankOrder (visit_of p.0.0) (visit_of p.0.1) p.1) bytes
+    (order_at bytes) (λ p f. (((pair_fits p.0.0 f.0.0, pair_fits p.0.1 f.0.1, f.1), refl), refl)) from (order_read bytes)
   where
-    from : (r : Row) (t : List ℕ) → Line single lines.TankOrder r → Any t → SameHead (row_after single r ++ t) bytes → (p : Order) × FitsOrder p × (rows.TankOrder (visit_of p.0.0) (visit_of p.0.1) p.1 ≡ r)
-    from (rows.TankOrder a b q) t f s h = ((((a.carrier, a.stage), (b.carrier, b.stage)), q), ((some_pair a.carrier a.stage f.0.0, some_pair b.carrier b.stage f.0.1), f.0.2), refl)
+    from : (r : Row) (t : List ℕ) → Line single lines.TankOrder r → Any t → SameHead (row_after single r ++ t) bytes
+        → (p : Order) × FitsOrder p × (rows.TankOrder (visit_of p.0.0) (visit_of p.0.1) p.1 ≡ r)
+    from (rows.TankOrder a b q) t f s h =
+        ((((a.carrier, a.stage), (b.carrier, b.stage)), q), ((some_pair a.carrier a.stage f.0.0, some_pair b.carrier b.stage f.0.1), f.0.2), refl)
     from r t f s h = let e = f.1 in absurd cc
 rest_read single lines.HoistOrder inside bytes =
-    made_reads FitsOrder order_text (Line single lines.HoistOrder) (row_after single) Any (λ p. rows.HoistOrder (move_of p.0.0) (move_of p.0.1) p.1) bytes (order_at bytes) (λ p f. (((pair_fits p.0.0 f.0.0, pair_fits p.0.1 f.0.1, f.1), refl), refl)) from (order_read bytes)
+    made_reads FitsOrder order_text (Line single lines.HoistOrder) (row_after single) Any (λ p. rows.HoistOrder (move_of p.0.0) (move_of p.0.1) p.1) bytes
+    (order_at bytes) (λ p f. (((pair_fits p.0.0 f.0.0, pair_fits p.0.1 f.0.1, f.1), refl), refl)) from (order_read bytes)
   where
-    from : (r : Row) (t : List ℕ) → Line single lines.HoistOrder r → Any t → SameHead (row_after single r ++ t) bytes → (p : Order) × FitsOrder p × (rows.HoistOrder (move_of p.0.0) (move_of p.0.1) p.1 ≡ r)
-    from (rows.HoistOrder a b q) t f s h = ((((a.carrier, a.step), (b.carrier, b.step)), q), ((some_pair a.carrier a.step f.0.0, some_pair b.carrier b.step f.0.1), f.0.2), refl)
+    from : (r : Row) (t : List ℕ) → Line single lines.HoistOrder r → Any t → SameHead (row_after single r ++ t) bytes
+        → (p : Order) × FitsOrder p × (rows.HoistOrder (move_of p.0.0) (move_of p.0.1) p.1 ≡ r)
+    from (rows.HoistOrder a b q) t f s h =
+        ((((a.carrier, a.step), (b.carrier, b.step)), q), ((some_pair a.carrier a.step f.0.0, some_pair b.carrier b.step f.0.1), f.0.2), refl)
     from r t f s h = let e = f.1 in absurd cc
 rest_read single lines.Assign inside bytes =
-    made_reads FitsCounted counted_text (Line single lines.Assign) (row_after single) Any (λ p. rows.Assign (move_of p.0) p.1) bytes (counted_at bytes) (λ p f. (((pair_fits p.0 f.0, f.1.1), refl), refl)) from (counted_read bytes)
+    made_reads FitsCounted counted_text (Line single lines.Assign) (row_after single) Any (λ p. rows.Assign (move_of p.0) p.1) bytes (counted_at bytes)
+    (λ p f. (((pair_fits p.0 f.0, f.1.1), refl), refl)) from (counted_read bytes)
   where
-    from : (r : Row) (t : List ℕ) → Line single lines.Assign r → Any t → SameHead (row_after single r ++ t) bytes → (p : (ℕ × ℕ) × ℕ) × FitsCounted p × (rows.Assign (move_of p.0) p.1 ≡ r)
+    from : (r : Row) (t : List ℕ) → Line single lines.Assign r → Any t → SameHead (row_after single r ++ t) bytes
+        → (p : (ℕ × ℕ) × ℕ) × FitsCounted p × (rows.Assign (move_of p.0) p.1 ≡ r)
     from (rows.Assign m n) t f s h = (((m.carrier, m.step), n), (some_pair m.carrier m.step f.0.0, (omega arith, f.0.1)), refl)
     from r t f s h = let e = f.1 in absurd cc
 rest_read single lines.ClosedLow inside bytes =
-    made_reads (λ p. IsWalk p.0 × IsWalkOr p.1) (λ p. walk_text p.0 ++ high_text p.1) (Line single lines.ClosedLow) (row_after single) Any (λ p. rows.ClosedLow p.0 p.1) bytes
+    made_reads (λ p. IsWalk p.0 × IsWalkOr p.1) (λ p. walk_text p.0 ++ high_text p.1) (Line single lines.ClosedLow) (row_after single) Any
+    (λ p. rows.ClosedLow p.0 p.1) bytes
     (next_at walk_at tail_at bytes) (λ p f. ((f, refl), refl)) from
     (next_reads IsWalk walk_text NoDigit walk_at IsWalkOr high_text Any tail_at None tt (λ o t f s. tail_stops o t) walk_read tail_read bytes)
   where
-    from : (r : Row) (t : List ℕ) → Line single lines.ClosedLow r → Any t → SameHead (row_after single r ++ t) bytes → (p : List Constraint × Option (List Constraint)) × (IsWalk p.0 × IsWalkOr p.1) × (rows.ClosedLow p.0 p.1 ≡ r)
+    from : (r : Row) (t : List ℕ) → Line single lines.ClosedLow r → Any t → SameHead (row_after single r ++ t) bytes
+        → (p : List Constraint × Option (List Constraint)) × (IsWalk p.0 × IsWalkOr p.1) × (rows.ClosedLow p.0 p.1 ≡ r)
     from (rows.ClosedLow low high) t f s h = ((low, high), f.0, refl)
     from r t f s h = let e = f.1 in absurd cc
 rest_read single lines.ClosedHigh inside bytes =
-    made_reads IsWalk walk_line (Line single lines.ClosedHigh) (row_after single) Any (λ w. rows.ClosedHigh w) bytes (walk_line_at bytes) (λ w f. ((f, refl), refl)) from (walk_line_read bytes)
+    made_reads IsWalk walk_line (Line single lines.ClosedHigh) (row_after single) Any (λ w. rows.ClosedHigh w) bytes (walk_line_at bytes)
+    (λ w f. ((f, refl), refl)) from (walk_line_read bytes)
   where
-    from : (r : Row) (t : List ℕ) → Line single lines.ClosedHigh r → Any t → SameHead (row_after single r ++ t) bytes → (w : List Constraint) × IsWalk w × (rows.ClosedHigh w ≡ r)
+    from : (r : Row) (t : List ℕ) → Line single lines.ClosedHigh r → Any t → SameHead (row_after single r ++ t) bytes
+        → (w : List Constraint) × IsWalk w × (rows.ClosedHigh w ≡ r)
     from (rows.ClosedHigh w) t f s h = (w, f.0, refl)
     from r t f s h = let e = f.1 in absurd cc
 rest_read single lines.Stuck inside bytes =
-    made_reads (FitsStuck single) (λ p. stuck_text single p.0 p.1) (Line single lines.Stuck) (row_after single) Any (λ p. rows.Stuck (move_of p)) bytes (stuck_at single bytes) (λ p f. ((f, refl), refl)) from (stuck_read single bytes)
+    made_reads (FitsStuck single) (λ p. stuck_text single p.0 p.1) (Line single lines.Stuck) (row_after single) Any (λ p. rows.Stuck (move_of p)) bytes
+    (stuck_at single bytes) (λ p f. ((f, refl), refl)) from (stuck_read single bytes)
   where
-    from : (r : Row) (t : List ℕ) → Line single lines.Stuck r → Any t → SameHead (row_after single r ++ t) bytes → (p : ℕ × ℕ) × FitsStuck single p × (rows.Stuck (move_of p) ≡ r)
+    from : (r : Row) (t : List ℕ) → Line single lines.Stuck r → Any t → SameHead (row_after single r ++ t) bytes
+        → (p : ℕ × ℕ) × FitsStuck single p × (rows.Stuck (move_of p) ≡ r)
     from (rows.Stuck m) t f s h = ((m.carrier, m.step), f.0, refl)
     from r t f s h = let e = f.1 in absurd cc
 rest_read single lines.Solved inside bytes =
-    made_reads IsWalk walk_line (Line single lines.Solved) (row_after single) Any (λ w. rows.Solved w) bytes (walk_line_at bytes) (λ w f. ((f, refl), refl)) from (walk_line_read bytes)
+    made_reads IsWalk walk_line (Line single lines.Solved) (row_after single) Any (λ w. rows.Solved w) bytes (walk_line_at bytes)
+    (λ w f. ((f, refl), refl)) from (walk_line_read bytes)
   where
-    from : (r : Row) (t : List ℕ) → Line single lines.Solved r → Any t → SameHead (row_after single r ++ t) bytes → (w : List Constraint) × IsWalk w × (rows.Solved w ≡ r)
+    from : (r : Row) (t : List ℕ) → Line single lines.Solved r → Any t → SameHead (row_after single r ++ t) bytes
+        → (w : List Constraint) × IsWalk w × (rows.Solved w ≡ r)
     from (rows.Solved w) t f s h = (w, f.0, refl)
     from r t f s h = let e = f.1 in absurd cc
 rest_read single lines.Left inside bytes =
-    made_reads IsWalkOr left_text (Line single lines.Left) (row_after single) Any (λ o. rows.Left o) bytes (left_at bytes) (λ o f. ((f, refl), refl)) from (left_read bytes)
+    made_reads IsWalkOr left_text (Line single lines.Left) (row_after single) Any (λ o. rows.Left o) bytes (left_at bytes) (λ o f. ((f, refl), refl)) from
+    (left_read bytes)
   where
-    from : (r : Row) (t : List ℕ) → Line single lines.Left r → Any t → SameHead (row_after single r ++ t) bytes → (o : Option (List Constraint)) × IsWalkOr o × (rows.Left o ≡ r)
+    from : (r : Row) (t : List ℕ) → Line single lines.Left r → Any t → SameHead (row_after single r ++ t) bytes
+        → (o : Option (List Constraint)) × IsWalkOr o × (rows.Left o ≡ r)
     from (rows.Left o) t f s h = (o, f.0, refl)
     from r t f s h = let e = f.1 in absurd cc
 
 kinds_read : (single : Bool) (bytes : List ℕ) → Reads (In (row_kinds single)) row_word Any bytes (kind_at row_word (row_kinds single) bytes)
 kinds_read true bytes =
-    kind_read row_word lines.TankOrder (lines.HoistOrder ∷ lines.Assign ∷ lines.ClosedLow ∷ lines.ClosedHigh ∷ lines.Stuck ∷ lines.Solved ∷ lines.Left ∷ []) bytes (rows_apart single_kinds)
+    kind_read row_word lines.TankOrder (lines.HoistOrder ∷ lines.Assign ∷ lines.ClosedLow ∷ lines.ClosedHigh ∷ lines.Stuck ∷ lines.Solved ∷ lines.Left ∷ [])
+    bytes (rows_apart single_kinds)
 kinds_read false bytes = kind_read row_word lines.Choose single_kinds bytes (rows_apart all_kinds)
 
 pub row_read : (single : Bool) (bytes : List ℕ) → Reads (IsRow single) (row_text single) Any bytes (row_at single bytes)

@@ -5,18 +5,22 @@ use Rattle.std.proofs.lemmas.List.Concat.{flat_map-cons}
 use Rattle.std.proofs.lemmas.List.Elements.{All-get_or, All-from_get_or}
 use Rattle.choice_tree.specs.declared.constraint.Constraint.{Constraint}
 use Rattle.choice_tree.specs.declared.constraint.Constraint.TheVariants.{Min, Max, Entry, Visit, Repeat, Decided}
-use Rattle.answer_text.specs.Fields.{end, pair_text, token_text, walk_text, IsToken, IsWalk}
-use Rattle.answer_read.specs.declared.row.TokenKind.{TokenKind}
-use Rattle.answer_read.specs.declared.row.TokenKind.TheVariants as tokens
-use Rattle.answer_read.specs.Reading.{number_at, kind_at, items_at}
-use Rattle.answer_read.specs.Lines.{token_word, token_kinds, pair_at, token_rest, token_at, walk_at, walk_line_at}
-use Rattle.answer_read.proofs.Field.{SameHead, Reads, then_reads, made_reads, retext}
-use Rattle.answer_read.proofs.Numbers.{NoDigit, InRange, number_read}
-use Rattle.answer_read.proofs.Words.{Any, In, AreApart, kind_read, apart_is, refit, both_reads, worded_reads}
-use Rattle.answer_read.proofs.Items.{IsItem, AllFrom, texts_from, nils, length_nils, all_nils, stops_after, items_read}
+use Rattle.text_writing.specs.Texts.{end, pair_text}
+use Rattle.answer_text.specs.declared.words.TokenKind.{TokenKind}
+use Rattle.answer_text.specs.declared.words.TokenKind.TheVariants as tokens
+use Rattle.answer_text.specs.Limits.{most_carrier, most_stage, most_decision, most_tokens}
+use Rattle.answer_text.specs.Words.{token_word}
+use Rattle.answer_text.specs.Fields.{token_text, walk_text, IsToken, IsWalk}
+use Rattle.field_reading.specs.Reading.{number_at, kind_at, items_at}
+use Rattle.answer_read.specs.Lines.{token_kinds, pair_at, token_rest, token_at, walk_at, walk_line_at}
+use Rattle.field_reading.specs.Reads.{SameHead, Reads, NoDigit, InRange, Any, In, AreApart}
+use Rattle.field_reading.proofs.Field.{then_reads, made_reads, retext}
+use Rattle.field_reading.proofs.Numbers.{number_read}
+use Rattle.field_reading.proofs.Words.{kind_read, apart_is, refit, both_reads, worded_reads}
+use Rattle.field_reading.proofs.Items.{IsItem, AllFrom, texts_from, nils, length_nils, all_nils, stops_after, items_read, texts_are, all_at, all_from}
 
 abbrev pub FitsPair : ℕ × ℕ → Type 0
-FitsPair p = InRange 0 3 p.0 × InRange 0 32 p.1
+FitsPair p = InRange 0 most_carrier p.0 × InRange 0 most_stage p.1
 
 abbrev pub text_of_pair : ℕ × ℕ → List ℕ
 text_of_pair p = pair_text p.0 p.1
@@ -24,8 +28,10 @@ text_of_pair p = pair_text p.0 p.1
 pub pair_read : (bytes : List ℕ) → Reads FitsPair text_of_pair NoDigit bytes (pair_at bytes)
 unfolding pair_at
 pair_read bytes =
-    both_reads (InRange 0 3) decimal NoDigit (number_at 0 3) (codes " ") (InRange 0 32) decimal NoDigit (number_at 0 32) 0 (omega arith, omega arith) (λ k t f s. refl)
-    (λ b. number_read 0 3 b (omega arith) (omega arith) (omega arith)) (λ b. number_read 0 32 b (omega arith) (omega arith) (omega arith)) bytes
+    both_reads (InRange 0 most_carrier) decimal NoDigit (number_at 0 most_carrier) (codes " ") (InRange 0 most_stage) decimal NoDigit
+    (number_at 0 most_stage) 0 (omega arith, omega arith) (λ k t f s. refl)
+    (λ b. number_read 0 most_carrier b (omega arith) (omega arith) (omega arith))
+    (λ b. number_read 0 most_stage b (omega arith) (omega arith) (omega arith)) bytes
 
 -- ---- constraints
 
@@ -86,41 +92,51 @@ Token k t = IsToken t × (kind_of t ≡ k)
 rest_read : (k : TokenKind) (bytes : List ℕ) → Reads (Token k) after_word NoDigit bytes (token_rest k bytes)
 unfolding token_rest
 rest_read tokens.Min bytes =
-    made_reads FitsPair text_of_pair (Token tokens.Min) after_word NoDigit (λ p. Min p.0 p.1) bytes (pair_at bytes) (λ p f. (((f.0.1, f.1.1), refl), refl)) from (pair_read bytes)
+    made_reads FitsPair text_of_pair (Token tokens.Min) after_word NoDigit (λ p. Min p.0 p.1) bytes (pair_at bytes)
+    (λ p f. (((f.0.1, f.1.1), refl), refl)) from (pair_read bytes)
   where
     from : (t : Constraint) (x : List ℕ) → Token tokens.Min t → NoDigit x → SameHead (after_word t ++ x) bytes → (p : ℕ × ℕ) × FitsPair p × (Min p.0 p.1 ≡ t)
     from (Min c k) x f s h = ((c, k), ((omega arith, f.0.0), (omega arith, f.0.1)), refl)
     from t x f s h = let e = f.1 in absurd cc
 rest_read tokens.Max bytes =
-    made_reads FitsPair text_of_pair (Token tokens.Max) after_word NoDigit (λ p. Max p.0 p.1) bytes (pair_at bytes) (λ p f. (((f.0.1, f.1.1), refl), refl)) from (pair_read bytes)
+    made_reads FitsPair text_of_pair (Token tokens.Max) after_word NoDigit (λ p. Max p.0 p.1) bytes (pair_at bytes)
+    (λ p f. (((f.0.1, f.1.1), refl), refl)) from (pair_read bytes)
   where
     from : (t : Constraint) (x : List ℕ) → Token tokens.Max t → NoDigit x → SameHead (after_word t ++ x) bytes → (p : ℕ × ℕ) × FitsPair p × (Max p.0 p.1 ≡ t)
     from (Max c k) x f s h = ((c, k), ((omega arith, f.0.0), (omega arith, f.0.1)), refl)
     from t x f s h = let e = f.1 in absurd cc
 rest_read tokens.Entry bytes =
-    made_reads (InRange 0 3) decimal (Token tokens.Entry) after_word NoDigit (λ c. Entry c) bytes (number_at 0 3 bytes) (λ c f. ((f.1, refl), refl)) from
-    (number_read 0 3 bytes (omega arith) (omega arith) (omega arith))
+    made_reads (InRange 0 most_carrier) decimal (Token tokens.Entry) after_word NoDigit (λ c. Entry c) bytes (number_at 0 most_carrier bytes)
+    (λ c f. ((f.1, refl), refl)) from
+    (number_read 0 most_carrier bytes (omega arith) (omega arith) (omega arith))
   where
-    from : (t : Constraint) (x : List ℕ) → Token tokens.Entry t → NoDigit x → SameHead (after_word t ++ x) bytes → (c : ℕ) × InRange 0 3 c × (Entry c ≡ t)
+    from : (t : Constraint) (x : List ℕ) → Token tokens.Entry t → NoDigit x → SameHead (after_word t ++ x) bytes
+        → (c : ℕ) × InRange 0 most_carrier c × (Entry c ≡ t)
     from (Entry c) x f s h = (c, (omega arith, f.0), refl)
     from t x f s h = let e = f.1 in absurd cc
 rest_read tokens.Visit bytes =
-    made_reads FitsPair text_of_pair (Token tokens.Visit) after_word NoDigit (λ p. Visit p.0 p.1) bytes (pair_at bytes) (λ p f. (((f.0.1, f.1.1), refl), refl)) from (pair_read bytes)
+    made_reads FitsPair text_of_pair (Token tokens.Visit) after_word NoDigit (λ p. Visit p.0 p.1) bytes (pair_at bytes)
+    (λ p f. (((f.0.1, f.1.1), refl), refl)) from (pair_read bytes)
   where
-    from : (t : Constraint) (x : List ℕ) → Token tokens.Visit t → NoDigit x → SameHead (after_word t ++ x) bytes → (p : ℕ × ℕ) × FitsPair p × (Visit p.0 p.1 ≡ t)
+    from : (t : Constraint) (x : List ℕ) → Token tokens.Visit t → NoDigit x → SameHead (after_word t ++ x) bytes
+        → (p : ℕ × ℕ) × FitsPair p × (Visit p.0 p.1 ≡ t)
     from (Visit c k) x f s h = ((c, k), ((omega arith, f.0.0), (omega arith, f.0.1)), refl)
     from t x f s h = let e = f.1 in absurd cc
 rest_read tokens.Repeat bytes =
-    made_reads FitsPair text_of_pair (Token tokens.Repeat) after_word NoDigit (λ p. Repeat p.0 p.1) bytes (pair_at bytes) (λ p f. (((f.0.1, f.1.1), refl), refl)) from (pair_read bytes)
+    made_reads FitsPair text_of_pair (Token tokens.Repeat) after_word NoDigit (λ p. Repeat p.0 p.1) bytes (pair_at bytes)
+    (λ p f. (((f.0.1, f.1.1), refl), refl)) from (pair_read bytes)
   where
-    from : (t : Constraint) (x : List ℕ) → Token tokens.Repeat t → NoDigit x → SameHead (after_word t ++ x) bytes → (p : ℕ × ℕ) × FitsPair p × (Repeat p.0 p.1 ≡ t)
+    from : (t : Constraint) (x : List ℕ) → Token tokens.Repeat t → NoDigit x → SameHead (after_word t ++ x) bytes
+        → (p : ℕ × ℕ) × FitsPair p × (Repeat p.0 p.1 ≡ t)
     from (Repeat c k) x f s h = ((c, k), ((omega arith, f.0.0), (omega arith, f.0.1)), refl)
     from t x f s h = let e = f.1 in absurd cc
 rest_read tokens.Decided bytes =
-    made_reads (InRange 0 19999) decimal (Token tokens.Decided) after_word NoDigit (λ i. Decided i) bytes (number_at 0 19999 bytes) (λ i f. ((f.1, refl), refl)) from
-    (number_read 0 19999 bytes (omega arith) (omega arith) (omega arith))
+    made_reads (InRange 0 most_decision) decimal (Token tokens.Decided) after_word NoDigit (λ i. Decided i) bytes (number_at 0 most_decision bytes)
+    (λ i f. ((f.1, refl), refl)) from
+    (number_read 0 most_decision bytes (omega arith) (omega arith) (omega arith))
   where
-    from : (t : Constraint) (x : List ℕ) → Token tokens.Decided t → NoDigit x → SameHead (after_word t ++ x) bytes → (i : ℕ) × InRange 0 19999 i × (Decided i ≡ t)
+    from : (t : Constraint) (x : List ℕ) → Token tokens.Decided t → NoDigit x → SameHead (after_word t ++ x) bytes
+        → (i : ℕ) × InRange 0 most_decision i × (Decided i ≡ t)
     from (Decided i) x f s h = (i, (omega arith, f.0), refl)
     from t x f s h = let e = f.1 in absurd cc
 
@@ -146,30 +162,7 @@ token_item = record { reads = λ i. token_read; stops = λ i t x f s. blank_firs
 
 -- ---- walks
 
--- items that don't look at their numbers
-pub texts_are : {A : Type 0} (text : A → List ℕ) (i : ℕ) (xs : List A) → texts_from (λ j. text) i xs ≡ flat_map text xs
-unfolding texts_from
-texts_are text i [] = refl
-texts_are text i (x ∷ xs) = ap (λ (l : List ℕ). text x ++ l) (texts_are text (i + 1) xs) ∙ sym (flat_map-cons text x xs)
-
--- what holds of each item, by its place
-pub all_at : {A : Type 0} (F : ℕ → A → Type 0) (nil : A) (i : ℕ) (xs : List A) → AllFrom F i xs → (j : ℕ) → j < length xs → F (i + j) (get_or xs j nil)
-all_at F nil i [] f j lt = absurd (omega arith)
-all_at {A = A} F nil i (x ∷ xs) f zero lt = let e : i ≡ i + 0 = omega arith in subst (λ (n : ℕ). F n x) e f.0
-all_at {A = A} F nil i (x ∷ xs) f (suc j) lt =
-    let e : i + 1 + j ≡ i + suc j = omega arith in
-    subst (λ (n : ℕ). F n (get_or xs j nil)) e (all_at F nil (i + 1) xs f.1 j (omega arith))
-
-pub all_from : {A : Type 0} (F : ℕ → A → Type 0) (nil : A) (i : ℕ) (xs : List A) → ((j : ℕ) → j < length xs → F (i + j) (get_or xs j nil)) → AllFrom F i xs
-all_from F nil i [] h = tt
-all_from F nil i (x ∷ xs) h =
-    let e : i + 0 ≡ i = omega arith in (
-      subst (λ (n : ℕ). F n x) e (h 0 (omega arith)),
-      all_from F nil (i + 1) xs
-          (λ j lt. let m : i + suc j ≡ i + 1 + j = omega arith in subst (λ (n : ℕ). F n (get_or xs j nil)) m (h (suc j) (omega arith))),
-    )
-
-walk_into : (w : List Constraint) → InRange 1 1000 (length w) → AllFrom (λ i. IsToken) 0 w → IsWalk w
+walk_into : (w : List Constraint) → InRange 1 most_tokens (length w) → AllFrom (λ i. IsToken) 0 w → IsWalk w
 walk_into w f all = record { some = f.0; few = f.1; tokens = All-from_get_or IsToken w (Entry 0) (λ j lt. all_at (λ i. IsToken) (Entry 0) 0 w all j lt) }
 
 walk_from : (w : List Constraint) → IsWalk w → AllFrom (λ i. IsToken) 0 w
@@ -178,21 +171,25 @@ walk_from w f = all_from (λ i. IsToken) (Entry 0) 0 w (λ j lt. All-get_or IsTo
 pub walk_read : (bytes : List ℕ) → Reads IsWalk walk_text NoDigit bytes (walk_at bytes)
 unfolding walk_at
 walk_read bytes =
-    then_reads (InRange 1 1000) decimal NoDigit IsWalk walk_text NoDigit length (λ w. flat_map token_text w)
+    then_reads (InRange 1 most_tokens) decimal NoDigit IsWalk walk_text NoDigit length (λ w. flat_map token_text w)
     (record {
       parts = λ w f. (f.some, f.few);
       text = λ w f. refl;
-      stops = λ w t f s. subst (λ (l : List ℕ). NoDigit (l ++ t)) (texts_are token_text 0 w) (stops_after (λ i. IsToken) (λ i. token_text) NoDigit token_item.stops 0 w t (walk_from w f) s);
+      stops =
+          λ w t f s. subst (λ (l : List ℕ). NoDigit (l ++ t)) (texts_are token_text 0 w)
+          (stops_after (λ i. IsToken) (λ i. token_text) NoDigit token_item.stops 0 w t (walk_from w f) s);
       completes = λ n f.
           let w : List Constraint = nils (λ i. Entry 0) 0 n in
           let e : length w ≡ n = length_nils (λ i. Entry 0) 0 n in
           (w, walk_into w (omega (arith, f.0, e), omega (arith, f.1, e)) (all_nils (λ i. IsToken) (λ i. Entry 0) 0 n token_item.nil_fits), e);
     })
-    bytes (number_at 1 1000 bytes) (λ x. items_at (λ i. token_at) 0 x.0 x.1) (number_read 1 1000 bytes (omega arith) (omega arith) (omega arith))
+    bytes (number_at 1 most_tokens bytes) (λ x. items_at (λ i. token_at) 0 x.0 x.1) (number_read 1 most_tokens bytes (omega arith) (omega arith) (omega arith))
     (λ n rest f e.
-    refit (λ xs. (length xs ≡ n) × AllFrom (λ i. IsToken) 0 xs) (λ w. IsWalk w × (length w ≡ n)) (λ w. flat_map token_text w) NoDigit rest (items_at (λ i. token_at) 0 n rest)
+    refit (λ xs. (length xs ≡ n) × AllFrom (λ i. IsToken) 0 xs) (λ w. IsWalk w × (length w ≡ n)) (λ w. flat_map token_text w) NoDigit rest
+    (items_at (λ i. token_at) 0 n rest)
     (λ w g. (walk_into w (omega (arith, f.0, g.0), omega (arith, f.1, g.0)) g.1, g.0)) (λ w g. (g.1, walk_from w g.0))
-    (retext (λ xs. (length xs ≡ n) × AllFrom (λ i. IsToken) 0 xs) (λ xs. texts_from (λ i. token_text) 0 xs) (λ w. flat_map token_text w) NoDigit rest (items_at (λ i. token_at) 0 n rest)
+    (retext (λ xs. (length xs ≡ n) × AllFrom (λ i. IsToken) 0 xs) (λ xs. texts_from (λ i. token_text) 0 xs) (λ w. flat_map token_text w) NoDigit rest
+    (items_at (λ i. token_at) 0 n rest)
     (λ w g. texts_are token_text 0 w)
     (items_read (λ i. IsToken) (λ i. token_text) NoDigit (λ i. token_at) (λ i. Entry 0) token_item 0 n rest)))
 

@@ -1,7 +1,8 @@
 -- A whole answer.
-use Rattle.std.proofs.Common.{◌≡◌, ℕ, zero, suc, ◌+◌, ◌-◌, ◌^◌, ◌<◌, ◌≤◌, List, [], ◌∷◌, ◌++◌, length, take, codes, decimal, Bool, inl, inr, Option, None, Result, Ok, Err, refl, sym, ap, subst, ◌∙◌, append_assoc, arith, length-append}
-use Rattle.std.proofs.lemmas.List.{append-nil, append_cancel_left, take_at, nil_from_length}
-use Rattle.hoist_base.specs.LineData.{LineData}
+use Rattle.std.proofs.Common.{◌≡◌, ℕ, zero, suc, ◌+◌, ◌-◌, ◌^◌, ◌<◌, ◌≤◌, List, [], ◌∷◌, ◌++◌, length, take, codes, decimal, Bool, inl, inr, Option, None}
+use Rattle.std.proofs.Common.{Result, Ok, Err, refl, sym, ap, subst, ◌∙◌, append_assoc, arith, length-append}
+use Rattle.std.proofs.lemmas.List.{append-nil, nil_from_length}
+use Rattle.hoist_base.specs.LineData.{LineData, is_single}
 use Rattle.hoist_base.specs.Valid.{IsLine}
 use Rattle.timetable.specs.TimetableData.{TimetableData}
 use Rattle.choice_tree.specs.declared.node.Node.{Node}
@@ -9,20 +10,24 @@ use Rattle.answer_text.specs.declared.answer.Verdict.{Verdict}
 use Rattle.answer_text.specs.declared.answer.Verdict.TheVariants.{Optimal, Nothing, Unfinished}
 use Rattle.answer_text.specs.declared.answer.Answer.{Answer}
 use Rattle.answer_text.specs.Tables.{timetable_text}
-use Rattle.answer_text.specs.Answers.{is_single, version_text, verdict_text, answer_text}
+use Rattle.answer_text.specs.Limits.{most_bound, most_splits}
+use Rattle.answer_text.specs.Words.{version_text, verdict_text}
+use Rattle.answer_text.specs.Answers.{answer_text}
 use Rattle.answer_read.specs.declared.row.Row.{Row}
 use Rattle.answer_read.specs.declared.row.Row.TheVariants as rows
-use Rattle.answer_read.specs.declared.stop.Stop.{Stop}
-use Rattle.answer_read.specs.declared.stop.Stop.TheVariants as stops
-use Rattle.answer_read.specs.Gives.{Fails}
-use Rattle.answer_read.specs.Reading.{◌>>=◌, word_at, number_at, kind_at, both_at}
+use Rattle.field_reading.specs.declared.stop.Stop.{Stop}
+use Rattle.field_reading.specs.declared.stop.Stop.TheVariants as stops
+use Rattle.field_reading.specs.Gives.{Fails}
+use Rattle.field_reading.specs.Reading.{◌>>=◌, word_at, number_at, kind_at, both_at}
 use Rattle.answer_read.specs.Trees.{tree_of, rows_at, tree_at}
 use Rattle.answer_read.specs.Tables.{timetable_at}
 use Rattle.answer_read.specs.Parts.{verdicts, verdict_at, numbers_at, table_part_at, tree_part_at, answer_at}
-use Rattle.answer_read.specs.Answers.{IsAnswer, IsNumbered, IsTextOf, GoesOn, BreaksAt}
-use Rattle.answer_read.proofs.Field.{SameHead, SameHead-refl, IsRead, IsBroken, Reads, then_reads, word_reads, made_reads}
-use Rattle.answer_read.proofs.Numbers.{NoDigit, InRange, number_read}
-use Rattle.answer_read.proofs.Words.{Any, In, AreApart, kind_read, apart_is, worded_reads, both_reads, same_pair, cut_again, rest_shorter}
+use Rattle.answer_read.specs.Answers.{IsAnswer, IsNumbered, IsTextOf, BreaksAt}
+use Rattle.field_reading.specs.Reads.{SameHead, Reads, NoDigit, InRange, Any, In, AreApart}
+use Rattle.field_reading.proofs.Field.{then_reads, word_reads, made_reads}
+use Rattle.field_reading.proofs.Numbers.{number_read}
+use Rattle.field_reading.proofs.Words.{kind_read, apart_is, worded_reads, both_reads, rest_shorter}
+use Rattle.field_reading.proofs.Wholes.{breaks_at, same_cut, not_empty, whole_read}
 use Rattle.answer_read.proofs.Growing.{AreRows, rows_text, rows_read}
 use Rattle.answer_read.proofs.TableRead.{IsTableOr, timetable_read}
 use Rattle.answer_read.proofs.Orders.{lines_of, lines_are_rows, tree_is_tree, tree_again, tree_has_lines, tree_from_lines}
@@ -56,11 +61,12 @@ unfolding verdict_at
 verdict_read single bytes =
     word_reads (In verdicts) (verdict_part single) (λ v. codes "verdict " ++ verdict_text v) Any (version_text single) bytes _ Optimal (inl refl) (λ v f. refl)
     (λ a e.
-    word_reads (In verdicts) (λ v. codes "verdict " ++ verdict_text v) verdict_text Any (codes "verdict ") a (λ b. kind_at verdict_text verdicts b) Optimal (inl refl) (λ v f. refl)
+    word_reads (In verdicts) (λ v. codes "verdict " ++ verdict_text v) verdict_text Any (codes "verdict ") a (λ b. kind_at verdict_text verdicts b) Optimal
+    (inl refl) (λ v f. refl)
     (λ b e'. kind_read verdict_text Optimal (Nothing ∷ Unfinished ∷ []) b verdicts_apart))
 
 abbrev FitsNumbers : ℕ × ℕ → Type 0
-FitsNumbers p = InRange 1 20001 p.0 × InRange 0 1000000000 p.1
+FitsNumbers p = InRange 1 most_bound p.0 × InRange 0 most_splits p.1
 
 abbrev numbers_part : ℕ × ℕ → List ℕ
 numbers_part p = codes "\nbound " ++ (decimal p.0 ++ (codes "\nsplits " ++ decimal p.1))
@@ -71,10 +77,12 @@ least_numbers = ((omega arith, omega arith), (omega arith, omega arith))
 numbers_read : (bytes : List ℕ) → Reads FitsNumbers numbers_part NoDigit bytes (numbers_at bytes)
 unfolding numbers_at
 numbers_read bytes =
-    word_reads FitsNumbers numbers_part (λ p. decimal p.0 ++ (codes "\nsplits " ++ decimal p.1)) NoDigit (codes "\nbound ") bytes (λ a. both_at (number_at 1 20001) (codes "\nsplits ") (number_at 0 1000000000) a) (1, 0) least_numbers (λ p f. refl)
+    word_reads FitsNumbers numbers_part (λ p. decimal p.0 ++ (codes "\nsplits " ++ decimal p.1)) NoDigit (codes "\nbound ") bytes
+    (λ a. both_at (number_at 1 most_bound) (codes "\nsplits ") (number_at 0 most_splits) a) (1, 0) least_numbers (λ p f. refl)
     (λ a e.
-    both_reads (InRange 1 20001) decimal NoDigit (number_at 1 20001) (codes "\nsplits ") (InRange 0 1000000000) decimal NoDigit (number_at 0 1000000000) 0 (omega arith, omega arith) (λ n t f s. refl)
-    (λ b. number_read 1 20001 b (omega arith) (omega arith) (omega arith)) (λ b. number_read 0 1000000000 b (omega arith) (omega arith) (omega arith)) a)
+    both_reads (InRange 1 most_bound) decimal NoDigit (number_at 1 most_bound) (codes "\nsplits ")
+    (InRange 0 most_splits) decimal NoDigit (number_at 0 most_splits) 0 (omega arith, omega arith) (λ n t f s. refl)
+    (λ b. number_read 1 most_bound b (omega arith) (omega arith) (omega arith)) (λ b. number_read 0 most_splits b (omega arith) (omega arith) (omega arith)) a)
 
 abbrev table_part : LineData → Option TimetableData → List ℕ
 table_part l o = codes "\ntimetable " ++ timetable_text l o
@@ -82,7 +90,8 @@ table_part l o = codes "\ntimetable " ++ timetable_text l o
 table_part_read : (l : LineData) (bytes : List ℕ) → IsLine l → Reads (IsTableOr l) (table_part l) Any bytes (table_part_at l bytes)
 unfolding table_part_at
 table_part_read l bytes line =
-    word_reads (IsTableOr l) (table_part l) (timetable_text l) Any (codes "\ntimetable ") bytes (λ a. timetable_at l a) None tt (λ o f. refl) (λ a e. timetable_read l a line)
+    word_reads (IsTableOr l) (table_part l) (timetable_text l) Any (codes "\ntimetable ") bytes (λ a. timetable_at l a) None tt (λ o f. refl)
+    (λ a e. timetable_read l a line)
 
 abbrev lines_part : Bool → List Row → List ℕ
 lines_part single rows = codes "tree\n" ++ (rows_text single rows ++ codes "end\n")
@@ -97,10 +106,12 @@ lines_part_at single bytes = do
 one_line : (single : Bool) (most : ℕ) → 1 ≤ most → AreRows single most (rows.Left None ∷ [])
 one_line single most some = (tt, (tt, tt), omega arith)
 
-lines_part_read : (single : Bool) (most : ℕ) (bytes : List ℕ) → length bytes + 7 ≤ most → Reads (AreRows single most) (lines_part single) Any bytes (lines_part_at single bytes)
+lines_part_read : (single : Bool) (most : ℕ) (bytes : List ℕ) → length bytes + 7 ≤ most
+    → Reads (AreRows single most) (lines_part single) Any bytes (lines_part_at single bytes)
 unfolding lines_part_at
 lines_part_read single most bytes room =
-    word_reads (AreRows single most) (lines_part single) (λ lines. rows_text single lines ++ codes "end\n") Any (codes "tree\n") bytes _ (rows.Left None ∷ []) (one_line single most (omega arith)) (λ lines f. refl)
+    word_reads (AreRows single most) (lines_part single) (λ lines. rows_text single lines ++ codes "end\n") Any (codes "tree\n") bytes _ (rows.Left None ∷ [])
+    (one_line single most (omega arith)) (λ lines f. refl)
     (λ a e.
     worded_reads (AreRows single most) (rows_text single) Any (codes "end\n") (λ t. tt) a (rows_at single a)
     (rows_read single most a (omega (arith, ap length e, length-append (codes "tree\n") a))))
@@ -144,9 +155,11 @@ G3 l most v n t p = G2 l most v n p × (p.timetable ≡ t)
 
 same_made : (l : LineData) (most : ℕ) (v : Verdict) (n : ℕ × ℕ) (t : Option TimetableData) (p : Parts) → G3 l most v n t p → made v n t p.lines ≡ p
 same_made l most v n t p f =
-    ap (λ (x : Verdict). made x n t p.lines) (sym f.0.0.1) ∙ ap (λ (x : ℕ × ℕ). made p.verdict x t p.lines) (sym f.0.1) ∙ ap (λ (x : Option TimetableData). made p.verdict (p.bound, p.splits) x p.lines) (sym f.1)
+    ap (λ (x : Verdict). made x n t p.lines) (sym f.0.0.1) ∙ ap (λ (x : ℕ × ℕ). made p.verdict x t p.lines) (sym f.0.1)
+    ∙ ap (λ (x : Option TimetableData). made p.verdict (p.bound, p.splits) x p.lines) (sym f.1)
 
-lines_read : (l : LineData) (most : ℕ) (bytes : List ℕ) → IsLine l → length bytes + 7 ≤ most → Reads (FitsParts l most) (parts_text l) Any bytes (lines_at l bytes)
+lines_read : (l : LineData) (most : ℕ) (bytes : List ℕ) → IsLine l → length bytes + 7 ≤ most
+    → Reads (FitsParts l most) (parts_text l) Any bytes (lines_at l bytes)
 unfolding lines_at
 lines_read l most bytes line room =
     let s = is_single l in
@@ -155,7 +168,9 @@ lines_read l most bytes line room =
     then_reads (In verdicts) (verdict_part s) Any (FitsParts l most) (parts_text l) Any (λ p. p.verdict) (u1 l)
     (record {
       parts = λ p f. in_verdicts p.verdict;
-      text = λ p f. sym (append_assoc (version_text s) (codes "verdict " ++ verdict_text p.verdict) (u1 l p) ∙ ap (λ (x : List ℕ). version_text s ++ x) (append_assoc (codes "verdict ") (verdict_text p.verdict) (u1 l p)));
+      text =
+          λ p f. sym (append_assoc (version_text s) (codes "verdict " ++ verdict_text p.verdict) (u1 l p)
+          ∙ ap (λ (x : List ℕ). version_text s ++ x) (append_assoc (codes "verdict ") (verdict_text p.verdict) (u1 l p)));
       stops = λ p t f q. tt;
       completes = λ v f. (made v (1, 0) None one, (least_numbers, tt, leaf), refl);
     })
@@ -185,7 +200,17 @@ lines_read l most bytes line room =
     (λ lines j. ((((((g, k, j), refl), refl), refl)), refl))
     (λ p x j q h. (p.lines, j.0.0.0.2, same_made l most v n t p j))
     (lines_part_read s most c
-    (omega (arith, ap length e, length-append (verdict_part s v) a, ap length e1, length-append (numbers_part n) b, ap length e2, length-append (table_part l t) c, room))))))
+    (omega (
+      arith,
+      ap length e,
+      length-append (verdict_part s v) a,
+      ap length e1,
+      length-append (numbers_part n) b,
+      ap length e2,
+      length-append
+          (table_part l t) c,
+      room,
+    ))))))
 
 -- ---- parts and answers
 
@@ -199,13 +224,16 @@ parts_of a = record { verdict = a.verdict; bound = a.bound; splits = a.splits; t
 abbrev text_round : LineData → Verdict → ℕ → ℕ → Option TimetableData → List ℕ → List ℕ
 text_round l v bound splits t tree =
     version_text (is_single l)
-    ++ (codes "verdict " ++ (verdict_text v ++ (codes "\nbound " ++ (decimal bound ++ (codes "\nsplits " ++ (decimal splits ++ (codes "\ntimetable " ++ (timetable_text l t ++ (codes "tree\n" ++ (tree ++ codes "end\n"))))))))))
+    ++ (codes "verdict " ++ (verdict_text v ++ (codes "\nbound "
+    ++ (decimal bound ++ (codes "\nsplits " ++ (decimal splits
+    ++ (codes "\ntimetable " ++ (timetable_text l t ++ (codes "tree\n" ++ (tree ++ codes "end\n"))))))))))
 
 -- the greatest number of nodes
 abbrev most_nodes : ℕ
 most_nodes = 2 ^ 32 - 1
 
-answer_again : (l : LineData) (p : Parts) → FitsParts l most_nodes p → IsAnswer l (answer_of p) × IsNumbered (tree_of p.lines) × (answer_text l (answer_of p) ≡ parts_text l p)
+answer_again : (l : LineData) (p : Parts) → FitsParts l most_nodes p
+    → IsAnswer l (answer_of p) × IsNumbered (tree_of p.lines) × (answer_text l (answer_of p) ≡ parts_text l p)
 answer_again l p f =
     let s = is_single l in
     let forest = f.2.0 in
@@ -228,90 +256,64 @@ parts_text_is l a f = ap (text_round l a.verdict a.bound a.splits a.timetable) (
 
 -- ---- the bytes as a whole
 
--- a front that is longer begins with the shorter one and the byte behind it
-longer : (n m : ℕ) (front back : List ℕ) → length front ≡ n → n < m → m ≤ length (front ++ back) → (y : List ℕ) × (take m (front ++ back) ≡ front ++ y) × ((z : List ℕ) → SameHead (y ++ z) back)
-longer n m [] [] e lt le = absurd (omega (arith, e, lt, le))
-longer n zero [] (b ∷ back) e lt le = absurd (omega (arith, lt))
-longer n (suc m) [] (b ∷ back) e lt le = (b ∷ take m back, refl, λ z. refl)
-longer n zero (a ∷ front) back e lt le = absurd (omega (arith, lt))
-longer zero (suc m) (a ∷ front) back e lt le = absurd (omega (arith, e))
-longer (suc n) (suc m) (a ∷ front) back e lt le =
-    let r = longer n m front back (omega (arith, e)) (omega (arith, lt)) (omega (arith, le)) in
-    (r.0, ap (λ (l : List ℕ). a ∷ l) r.1, r.2)
-
--- a break of the bytes as a whole
-breaks_at : (l : LineData) (bytes front back : List ℕ) (left : ℕ) → bytes ≡ front ++ back → left ≡ length back → GoesOn l front
-    → ((a : Answer) (y : List ℕ) → IsAnswer l a → answer_text l a ≡ front ++ y → SameHead y back → ⊥) → BreaksAt l bytes (length bytes - left)
-breaks_at l bytes front back left is left_is goes none =
-    let n : length bytes - left ≡ length front = omega (arith, ap length is, length-append front back, left_is) in
-    let cut : take (length bytes - left) bytes ≡ front = ap (λ (k : ℕ). take k bytes) n ∙ ap (take (length front)) is ∙ take_at front back (length front) refl in
-    record {
-      no_text = λ a fits e. none a back fits (sym e ∙ is) (SameHead-refl back);
-      within = omega arith;
-      goes_on = subst (GoesOn l) (sym cut) goes;
-      longest = λ m lt le on.
-          let far : m ≤ length (front ++ back) = omega (arith, le, ap length is) in
-          let r = longer (length front) m front back refl (omega (arith, lt, n)) far in
-          let e : answer_text l on.0 ≡ front ++ (r.0 ++ on.1) = on.3 ∙ ap (λ (x : List ℕ). x ++ on.1) (ap (take m) is ∙ r.1) ∙ append_assoc front r.0 on.1 in
-          none on.0 (r.0 ++ on.1) on.2 e (r.2 on.1);
-    }
-
-same_cut : (f b g c : List ℕ) → f ++ b ≡ g ++ c → length b ≡ length c → (f ≡ g) × (b ≡ c)
-same_cut f b g c e n =
-    let m = cut_again f b g c e (omega (arith, n)) in
-    let none : m.0 ≡ [] = nil_from_length m.0 (omega (arith, ap length m.2, length-append m.0 b, n)) in
-    (m.1 ∙ ap (λ (x : List ℕ). g ++ x) none ∙ append-nil g, sym (m.2 ∙ ap (λ (x : List ℕ). x ++ b) none))
-
 -- as many lines as these bytes or this answer may have
 abbrev enough_for : List ℕ → Answer → ℕ
 enough_for bytes a = length bytes + 7 + length (lines_of a.tree)
 
+-- what was read, with whatever bound of the lines
+read_with : (l : LineData) (bytes : List ℕ) (r : Result (Parts × List ℕ) ℕ) → IsLine l → lines_at l bytes ≡ r → (most : ℕ) → length bytes + 7 ≤ most
+    → Reads (FitsParts l most) (parts_text l) Any bytes r
+read_with l bytes r line e most room =
+    subst (λ (q : Result (Parts × List ℕ) ℕ). Reads (FitsParts l most) (parts_text l) Any bytes q) e (lines_read l most bytes line room)
+
+-- the text of an answer, where it is cut as that of its parts
+parts_cut : (l : LineData) (a : Answer) (front y : List ℕ) → IsAnswer l a → answer_text l a ≡ front ++ y → parts_text l (parts_of a) ++ [] ≡ front ++ y
+parts_cut l a front y f e = append-nil (parts_text l (parts_of a)) ∙ sym (parts_text_is l a f) ∙ e
+
 -- reading broke off
-is_broken : (l : LineData) (bytes : List ℕ) (left : ℕ) → IsLine l → length bytes ≤ 2 ^ 30 → lines_at l bytes ≡ Err left → BreaksAt l bytes (length bytes - left)
+is_broken : (l : LineData) (bytes : List ℕ) (left : ℕ) → IsLine l → length bytes ≤ 2 ^ 30 → lines_at l bytes ≡ Err left
+    → BreaksAt l bytes (length bytes - left)
 is_broken l bytes left line few e =
-    let broken : (most : ℕ) → length bytes + 7 ≤ most → IsBroken (FitsParts l most) (parts_text l) Any bytes left = λ most room. subst (λ (r : Result (Parts × List ℕ) ℕ). Reads (FitsParts l most) (parts_text l) Any bytes r) e (lines_read l most bytes line room) in
+    let broken = read_with l bytes (Err left) line e in
     let h = broken most_nodes (omega (arith, few)) in
     let again = answer_again l h.some h.fits in
-    breaks_at l bytes h.front h.back left h.is h.left_is (answer_of h.some, h.more, again.0, again.2 ∙ h.begun)
+    breaks_at (IsAnswer l) (answer_text l) bytes h.front h.back left h.is h.left_is (answer_of h.some, h.more, again.0, again.2 ∙ h.begun)
     (λ a y f e' same.
-    let k = broken (enough_for bytes a) (omega arith) in
+    let most = enough_for bytes a in
+    let k = broken most (omega arith) in
     let cut = same_cut k.front k.back h.front h.back (sym k.is ∙ h.is) (sym k.left_is ∙ h.left_is) in
-    k.none (parts_of a) [] y (parts_fit l (enough_for bytes a) a f (omega arith)) tt
-    (append-nil (parts_text l (parts_of a)) ∙ sym (parts_text_is l a f) ∙ e' ∙ ap (λ (x : List ℕ). x ++ y) (sym cut.0))
+    k.none (parts_of a) [] y (parts_fit l most a f (omega arith)) tt
+    (parts_cut l a h.front y f e' ∙ ap (λ (x : List ℕ). x ++ y) (sym cut.0))
     (subst (SameHead y) (sym cut.1) same))
 
 -- something stands behind the answer
-is_more : (l : LineData) (bytes rest : List ℕ) (p : Parts) → IsLine l → length bytes ≤ 2 ^ 30 → lines_at l bytes ≡ Ok (p, rest) → 0 < length rest → BreaksAt l bytes (length bytes - length rest)
+is_more : (l : LineData) (bytes rest : List ℕ) (p : Parts) → IsLine l → length bytes ≤ 2 ^ 30 → lines_at l bytes ≡ Ok (p, rest) → 0 < length rest
+    → BreaksAt l bytes (length bytes - length rest)
 is_more l bytes rest p line few e some =
-    let read : (most : ℕ) → length bytes + 7 ≤ most → IsRead (FitsParts l most) (parts_text l) Any bytes p rest = λ most room. subst (λ (r : Result (Parts × List ℕ) ℕ). Reads (FitsParts l most) (parts_text l) Any bytes r) e (lines_read l most bytes line room) in
+    let read = read_with l bytes (Ok (p, rest)) line e in
     let h = read most_nodes (omega (arith, few)) in
     let again = answer_again l p h.fits in
-    breaks_at l bytes (parts_text l p) rest (length rest) h.is refl (answer_of p, [], again.0, again.2 ∙ sym (append-nil (parts_text l p)))
+    breaks_at (IsAnswer l) (answer_text l) bytes (parts_text l p) rest (length rest) h.is refl
+    (answer_of p, [], again.0, again.2 ∙ sym (append-nil (parts_text l p)))
     (λ a y f e' same.
-    let k = read (enough_for bytes a) (omega arith) in
-    let whole : parts_text l (parts_of a) ++ [] ≡ parts_text l p ++ y = append-nil (parts_text l (parts_of a)) ∙ sym (parts_text_is l a f) ∙ e' in
-    let q : parts_of a ≡ p = k.only (parts_of a) [] y (parts_fit l (enough_for bytes a) a f (omega arith)) tt whole same in
+    let most = enough_for bytes a in
+    let k = read most (omega arith) in
+    let whole = parts_cut l a (parts_text l p) y f e' in
+    let q : parts_of a ≡ p = k.only (parts_of a) [] y (parts_fit l most a f (omega arith)) tt whole same in
     let text : parts_text l p ≡ parts_text l p ++ y = ap (parts_text l) (sym q) ∙ sym (append-nil (parts_text l (parts_of a))) ∙ whole in
-    past y (omega (arith, ap length text, length-append (parts_text l p) y)) same)
-  where
-    empty : (rest : List ℕ) → 0 < length rest → SameHead [] rest → ⊥
-    empty [] lt same = omega (arith, lt)
-    empty (x ∷ rest) lt same = same
-
-    past : (y : List ℕ) → length y ≡ 0 → SameHead y rest → ⊥
-    past [] z same = empty rest some same
-    past (x ∷ y) z same = absurd (omega (arith, z))
+    not_empty rest y some (omega (arith, ap length text, length-append (parts_text l p) y)) same)
 
 -- all was read
 is_whole : (l : LineData) (bytes : List ℕ) (p : Parts) → IsLine l → length bytes ≤ 2 ^ 30 → lines_at l bytes ≡ Ok (p, []) → IsTextOf l bytes (answer_of p)
 is_whole l bytes p line few e =
-    let h : IsRead (FitsParts l most_nodes) (parts_text l) Any bytes p [] = subst (λ (r : Result (Parts × List ℕ) ℕ). Reads (FitsParts l most_nodes) (parts_text l) Any bytes r) e (lines_read l most_nodes bytes line (omega (arith, few))) in
+    let h = read_with l bytes (Ok (p, [])) line e most_nodes (omega (arith, few)) in
     let again = answer_again l p h.fits in
     record { answer = again.0; numbered = again.1; text = h.is ∙ append-nil (parts_text l p) ∙ sym again.2 }
 
 -- ---- with the lines as a tree
 
-bind_both : {A B C : Type 0} (r : Result A ℕ) (f : A → Result C ℕ) (g : A → Result B ℕ) (h : B → Result C ℕ) → ((x : A) → f x ≡ (g x >>= h)) → (r >>= f) ≡ ((r >>= g) >>= h)
+bind_both : {A B C : Type 0} (r : Result A ℕ) (f : A → Result C ℕ) (g : A → Result B ℕ) (h : B → Result C ℕ) → ((x : A) → f x ≡ (g x >>= h))
+    → (r >>= f) ≡ ((r >>= g) >>= h)
 bind_both (Ok x) f g h e = e x
 bind_both (Err left) f g h e = refl
 
@@ -321,14 +323,16 @@ planted x = Ok (tree_of x.0, x.1)
 tree_part_is : (single : Bool) (bytes : List ℕ) → tree_part_at single bytes ≡ (lines_part_at single bytes >>= planted)
 unfolding tree_part_at lines_part_at tree_at
 tree_part_is single bytes =
-    bind_both (word_at (codes "tree\n") bytes) (λ a. tree_at single a >>= λ x. word_at (codes "end\n") x.1 >>= λ rest. Ok (x.0, rest)) (λ a. rows_at single a >>= λ x. word_at (codes "end\n") x.1 >>= λ rest. Ok (x.0, rest)) planted
+    bind_both (word_at (codes "tree\n") bytes) (λ a. tree_at single a >>= λ x. word_at (codes "end\n") x.1 >>= λ rest. Ok (x.0, rest))
+    (λ a. rows_at single a >>= λ x. word_at (codes "end\n") x.1 >>= λ rest. Ok (x.0, rest)) planted
     (λ a. by_rows (rows_at single a))
   where
     words : (lines : List Row) (r : Result (List ℕ) ℕ) → (r >>= λ rest. Ok (tree_of lines, rest)) ≡ ((r >>= λ rest. Ok (lines, rest)) >>= planted)
     words lines (Ok rest) = refl
     words lines (Err left) = refl
 
-    by_rows : (r : Result (List Row × List ℕ) ℕ) → ((r >>= planted) >>= λ x. word_at (codes "end\n") x.1 >>= λ rest. Ok (x.0, rest)) ≡ ((r >>= λ x. word_at (codes "end\n") x.1 >>= λ rest. Ok (x.0, rest)) >>= planted)
+    by_rows : (r : Result (List Row × List ℕ) ℕ) → ((r >>= planted) >>= λ x. word_at (codes "end\n") x.1 >>= λ rest. Ok (x.0, rest)) ≡
+        ((r >>= λ x. word_at (codes "end\n") x.1 >>= λ rest. Ok (x.0, rest)) >>= planted)
     by_rows (Ok x) = words x.0 (word_at (codes "end\n") x.1)
     by_rows (Err left) = refl
 
@@ -336,12 +340,16 @@ abbrev answered : Parts × List ℕ → Result (Answer × List ℕ) ℕ
 answered x = Ok (answer_of x.0, x.1)
 
 last_step : (l : LineData) (v : Verdict) (n : ℕ × ℕ) (t : Option TimetableData) (bytes : List ℕ)
-    → (tree_part_at (is_single l) bytes >>= λ tree. Ok (record { verdict = v; bound = n.0; splits = n.1; timetable = t; tree = tree.0 }, tree.1)) ≡ ((lines_part_at (is_single l) bytes >>= λ lines. Ok (made v n t lines.0, lines.1)) >>= answered)
+    → (tree_part_at (is_single l) bytes >>= λ tree. Ok (record { verdict = v; bound = n.0; splits = n.1; timetable = t; tree = tree.0 }, tree.1)) ≡
+    ((lines_part_at (is_single l) bytes >>= λ lines. Ok (made v n t lines.0, lines.1)) >>= answered)
 last_step l v n t bytes =
-    ap (λ (r : Result (List Node × List ℕ) ℕ). r >>= λ tree. Ok (record { verdict = v; bound = n.0; splits = n.1; timetable = t; tree = tree.0 }, tree.1)) (tree_part_is (is_single l) bytes)
+    ap (λ (r : Result (List Node × List ℕ) ℕ). r >>= λ tree. Ok (record { verdict = v; bound = n.0; splits = n.1; timetable = t; tree = tree.0 }, tree.1))
+    (tree_part_is (is_single l) bytes)
     ∙ by_lines (lines_part_at (is_single l) bytes)
   where
-    by_lines : (r : Result (List Row × List ℕ) ℕ) → ((r >>= planted) >>= λ tree. Ok (record { verdict = v; bound = n.0; splits = n.1; timetable = t; tree = tree.0 }, tree.1)) ≡ ((r >>= λ lines. Ok (made v n t lines.0, lines.1)) >>= answered)
+    by_lines : (r : Result (List Row × List ℕ) ℕ) →
+        ((r >>= planted) >>= λ tree. Ok (record { verdict = v; bound = n.0; splits = n.1; timetable = t; tree = tree.0 }, tree.1)) ≡
+        ((r >>= λ lines. Ok (made v n t lines.0, lines.1)) >>= answered)
     by_lines (Ok x) = refl
     by_lines (Err left) = refl
 
@@ -364,17 +372,20 @@ broke : (r : Result (Parts × List ℕ) ℕ) (left : ℕ) → (r >>= answered) �
 broke (Ok x) left e = absurd cc
 broke (Err other) left e = let p : other ≡ left = cc in ap (λ (k : ℕ). Err k) p
 
-pub text_found : (l : LineData) (bytes rest : List ℕ) (a : Answer) → IsLine l → length bytes ≤ 2 ^ 30 → answer_at l bytes ≡ Ok (a, rest) → length rest ≡ 0 → IsTextOf l bytes a
+pub text_found : (l : LineData) (bytes rest : List ℕ) (a : Answer) → IsLine l → length bytes ≤ 2 ^ 30 → answer_at l bytes ≡ Ok (a, rest) → length rest ≡ 0
+    → IsTextOf l bytes a
 text_found l bytes rest a line few e none =
     let c = came (lines_at l bytes) a rest (sym (answer_is l bytes) ∙ e) in
     subst (IsTextOf l bytes) (sym c.2) (is_whole l bytes c.0 line few (c.1 ∙ ap (λ (x : List ℕ). Ok (c.0, x)) (nil_from_length rest none)))
 
-pub more_found : (l : LineData) (bytes rest : List ℕ) (a : Answer) → IsLine l → length bytes ≤ 2 ^ 30 → answer_at l bytes ≡ Ok (a, rest) → 0 < length rest → BreaksAt l bytes (length bytes - length rest)
+pub more_found : (l : LineData) (bytes rest : List ℕ) (a : Answer) → IsLine l → length bytes ≤ 2 ^ 30 → answer_at l bytes ≡ Ok (a, rest) → 0 < length rest
+    → BreaksAt l bytes (length bytes - length rest)
 more_found l bytes rest a line few e some =
     let c = came (lines_at l bytes) a rest (sym (answer_is l bytes) ∙ e) in
     is_more l bytes rest c.0 line few c.1 some
 
-pub break_found : (l : LineData) (bytes : List ℕ) (left : ℕ) → IsLine l → length bytes ≤ 2 ^ 30 → answer_at l bytes ≡ Err left → BreaksAt l bytes (length bytes - left)
+pub break_found : (l : LineData) (bytes : List ℕ) (left : ℕ) → IsLine l → length bytes ≤ 2 ^ 30 → answer_at l bytes ≡ Err left
+    → BreaksAt l bytes (length bytes - left)
 break_found l bytes left line few e = is_broken l bytes left line few (broke (lines_at l bytes) left (sym (answer_is l bytes) ∙ e))
 
 -- the text of an answer is read as that answer
@@ -383,18 +394,15 @@ text_read l bytes a line h =
     let most = enough_for bytes a in
     let fits = parts_fit l most a h.answer (omega arith) in
     let text : bytes ≡ parts_text l (parts_of a) = h.text ∙ parts_text_is l a h.answer in
-    let same : answer_of (parts_of a) ≡ a = ap (λ (t : List Node). record { verdict = a.verdict; bound = a.bound; splits = a.splits; timetable = a.timetable; tree = t }) (tree_from_lines (is_single l) a.tree h.answer.tree h.answer.writable.nodes h.numbered) in
-    answer_is l bytes ∙ ap (λ (r : Result (Parts × List ℕ) ℕ). r >>= answered) (by_result (lines_at l bytes) fits text (lines_read l most bytes line (omega arith))) ∙ ap (λ (x : Answer). Ok (x, [])) same
-  where
-    by_result : (r : Result (Parts × List ℕ) ℕ) → FitsParts l (enough_for bytes a) (parts_of a) → bytes ≡ parts_text l (parts_of a) → Reads (FitsParts l (enough_for bytes a)) (parts_text l) Any bytes r → r ≡ Ok (parts_of a, [])
-    by_result (Ok x) fits text g =
-        let e : parts_text l (parts_of a) ++ [] ≡ parts_text l x.0 ++ x.1 = append-nil (parts_text l (parts_of a)) ∙ sym text ∙ g.is in
-        let p : parts_of a ≡ x.0 = g.only (parts_of a) [] x.1 fits tt e (SameHead-refl x.1) in
-        let q : [] ≡ x.1 = append_cancel_left (parts_text l x.0) [] x.1 (ap (λ (b : Parts). parts_text l b ++ []) (sym p) ∙ e) in
-        ap (λ (y : Parts × List ℕ). Ok y) (same_pair x (parts_of a) [] (sym p) (sym q))
-    by_result (Err left) fits text g = absurd (g.none (parts_of a) [] g.back fits tt (append-nil (parts_text l (parts_of a)) ∙ sym text ∙ g.is) (SameHead-refl g.back))
+    let with_tree : List Node → Answer =
+    λ (t : List Node). record { verdict = a.verdict; bound = a.bound; splits = a.splits; timetable = a.timetable; tree = t } in
+    let same : answer_of (parts_of a) ≡ a =
+    ap with_tree (tree_from_lines (is_single l) a.tree h.answer.tree h.answer.writable.nodes h.numbered) in
+    let found = whole_read (FitsParts l most) (parts_text l) bytes (parts_of a) (lines_at l bytes) fits text (lines_read l most bytes line (omega arith)) in
+    answer_is l bytes ∙ ap (λ (r : Result (Parts × List ℕ) ℕ). r >>= answered) found ∙ ap (λ (x : Answer). Ok (x, [])) same
 
-pub same_read : (l : LineData) (bytes rest : List ℕ) (a b : Answer) → IsLine l → answer_at l bytes ≡ Ok (a, rest) → IsTextOf l bytes b → (a ≡ b) × (length rest ≡ 0)
+pub same_read : (l : LineData) (bytes rest : List ℕ) (a b : Answer) → IsLine l → answer_at l bytes ≡ Ok (a, rest) → IsTextOf l bytes b
+    → (a ≡ b) × (length rest ≡ 0)
 same_read l bytes rest a b line e h =
     let both : Ok (a, rest) ≡ Ok (b, []) = sym e ∙ text_read l bytes b line h in
     let p : (a, rest) ≡ (b, []) = cc in
@@ -413,10 +421,12 @@ broken_is (stops.Broken k) left r e f = let p : k ≡ left = cc in f ∙ ap (λ 
 -- ---- what is left is no longer than what there was
 
 pub verdict_shorter : (single : Bool) (bytes rest : List ℕ) (v : Verdict) → verdict_at single bytes ≡ Ok (v, rest) → length rest ≤ length bytes
-verdict_shorter single bytes rest v e = rest_shorter (In verdicts) (verdict_part single) Any bytes (verdict_at single bytes) v rest (verdict_read single bytes) e
+verdict_shorter single bytes rest v e =
+    rest_shorter (In verdicts) (verdict_part single) Any bytes (verdict_at single bytes) v rest (verdict_read single bytes) e
 
 pub numbers_shorter : (bytes rest : List ℕ) (p : ℕ × ℕ) → numbers_at bytes ≡ Ok (p, rest) → length rest ≤ length bytes
 numbers_shorter bytes rest p e = rest_shorter FitsNumbers numbers_part NoDigit bytes (numbers_at bytes) p rest (numbers_read bytes) e
 
-pub table_shorter : (l : LineData) (bytes rest : List ℕ) (o : Option TimetableData) → IsLine l → table_part_at l bytes ≡ Ok (o, rest) → length rest ≤ length bytes
+pub table_shorter : (l : LineData) (bytes rest : List ℕ) (o : Option TimetableData) → IsLine l → table_part_at l bytes ≡ Ok (o, rest)
+    → length rest ≤ length bytes
 table_shorter l bytes rest o line e = rest_shorter (IsTableOr l) (table_part l) Any bytes (table_part_at l bytes) o rest (table_part_read l bytes line) e

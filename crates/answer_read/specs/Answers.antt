@@ -1,11 +1,12 @@
 -- What the bytes of an answer's text are, and how far bytes go on as one.
-use Rattle.std.specs.Prelude.{◌≡◌, ℕ, ◌-◌, ◌<◌, ◌≤◌, List, ◌++◌, length, take, flat_map}
+use Rattle.std.specs.Prelude.{◌≡◌, ℕ, ◌-◌, List, length, flat_map}
 use Rattle.hoist_base.specs.LineData.{LineData}
 use Rattle.choice_tree.specs.declared.node.Node.{Node}
 use Rattle.choice_tree.specs.Nodes.{node_at, children_of, numbers_from}
 use Rattle.choice_tree.specs.Trees.{IsTree, preorder}
 use Rattle.answer_text.specs.declared.answer.Answer.{Answer}
 use Rattle.answer_text.specs.Answers.{answer_text, IsWritable}
+use Rattle.field_reading.specs.Fronts as texts
 use Rattle.answer_read.specs.declared.answer.AnswerRead.{AnswerRead}
 use Rattle.answer_read.specs.declared.answer.AnswerRead.TheVariants.{Ready, Broken}
 
@@ -26,14 +27,11 @@ pub record IsTextOf (l : LineData) (bytes : List ℕ) (a : Answer) : Type 0 wher
 
 -- the text of some answer to the line begins so
 abbrev pub GoesOn : LineData → List ℕ → Type 0
-GoesOn l front = (a : Answer) × (rest : List ℕ) × IsAnswer l a × (answer_text l a ≡ front ++ rest)
+GoesOn l front = texts.GoesOn (IsAnswer l) (answer_text l) front
 
 -- the bytes are the text of no answer, and their longest front that the text of some answer begins with has n bytes
-pub record BreaksAt (l : LineData) (bytes : List ℕ) (n : ℕ) : Type 0 where
-  pub no_text : (a : Answer) → IsAnswer l a → bytes ≡ answer_text l a → ⊥
-  pub within : n ≤ length bytes
-  pub goes_on : GoesOn l (take n bytes)
-  pub longest : (m : ℕ) → n < m → m ≤ length bytes → GoesOn l (take m bytes) → ⊥
+abbrev pub BreaksAt : LineData → List ℕ → ℕ → Type 0
+BreaksAt l bytes n = texts.BreaksAt (IsAnswer l) (answer_text l) bytes n
 
 -- a right answer about the bytes
 abbrev pub IsRead : LineData → List ℕ → AnswerRead → Type 0

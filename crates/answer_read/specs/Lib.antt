@@ -1,5 +1,3 @@
-pub mod Reading
-pub mod Gives
 pub mod Lines
 pub mod Trees
 pub mod Tables

@@ -4,29 +4,23 @@ use Rattle.hoist_base.specs.declared.ids.VisitId.{VisitId}
 use Rattle.hoist_base.specs.declared.ids.MoveId.{MoveId}
 use Rattle.choice_tree.specs.declared.constraint.Constraint.{Constraint}
 use Rattle.choice_tree.specs.declared.constraint.Constraint.TheVariants.{Min, Max, Entry, Visit, Repeat, Decided}
-use Rattle.answer_text.specs.Fields.{end}
+use Rattle.text_writing.specs.Texts.{end}
+use Rattle.answer_text.specs.declared.words.TokenKind.{TokenKind}
+use Rattle.answer_text.specs.declared.words.TokenKind.TheVariants as tokens
+use Rattle.answer_text.specs.Limits.{most_carrier, most_stage, most_decision, most_tokens, most_children, most_shift}
+use Rattle.answer_text.specs.Words.{token_word}
 use Rattle.answer_read.specs.declared.row.Row.{Row}
 use Rattle.answer_read.specs.declared.row.Row.TheVariants as rows
 use Rattle.answer_read.specs.declared.row.RowKind.{RowKind}
 use Rattle.answer_read.specs.declared.row.RowKind.TheVariants as lines
-use Rattle.answer_read.specs.declared.row.TokenKind.{TokenKind}
-use Rattle.answer_read.specs.declared.row.TokenKind.TheVariants as tokens
 use Rattle.answer_read.specs.declared.row.Tail.{Tail}
 use Rattle.answer_read.specs.declared.row.Tail.TheVariants as tails
-use Rattle.answer_read.specs.Reading.{◌>>=◌, word_at, number_at, signed_at, kind_at, begins, both_at, next_at, ended, items_at}
+use Rattle.field_reading.specs.Reading.{◌>>=◌, word_at, number_at, signed_at, kind_at, begins, both_at, next_at, ended, items_at}
 
 unfoldable pub pair_at : List ℕ → Result ((ℕ × ℕ) × List ℕ) ℕ
-pair_at bytes = both_at (number_at 0 3) (codes " ") (number_at 0 32) bytes
+pair_at bytes = both_at (number_at 0 most_carrier) (codes " ") (number_at 0 most_stage) bytes
 
 -- ---- constraints and walks
-
-abbrev pub token_word : TokenKind → List ℕ
-token_word tokens.Min = codes " m "
-token_word tokens.Max = codes " x "
-token_word tokens.Entry = codes " e "
-token_word tokens.Visit = codes " v "
-token_word tokens.Repeat = codes " r "
-token_word tokens.Decided = codes " d "
 
 abbrev pub token_kinds : List TokenKind
 token_kinds = tokens.Min ∷ tokens.Max ∷ tokens.Entry ∷ tokens.Visit ∷ tokens.Repeat ∷ tokens.Decided ∷ []
@@ -34,10 +28,10 @@ token_kinds = tokens.Min ∷ tokens.Max ∷ tokens.Entry ∷ tokens.Visit ∷ to
 unfoldable pub token_rest : TokenKind → List ℕ → Result (Constraint × List ℕ) ℕ
 token_rest tokens.Min bytes = pair_at bytes >>= λ x. Ok (Min x.0.0 x.0.1, x.1)
 token_rest tokens.Max bytes = pair_at bytes >>= λ x. Ok (Max x.0.0 x.0.1, x.1)
-token_rest tokens.Entry bytes = number_at 0 3 bytes >>= λ x. Ok (Entry x.0, x.1)
+token_rest tokens.Entry bytes = number_at 0 most_carrier bytes >>= λ x. Ok (Entry x.0, x.1)
 token_rest tokens.Visit bytes = pair_at bytes >>= λ x. Ok (Visit x.0.0 x.0.1, x.1)
 token_rest tokens.Repeat bytes = pair_at bytes >>= λ x. Ok (Repeat x.0.0 x.0.1, x.1)
-token_rest tokens.Decided bytes = number_at 0 19999 bytes >>= λ x. Ok (Decided x.0, x.1)
+token_rest tokens.Decided bytes = number_at 0 most_decision bytes >>= λ x. Ok (Decided x.0, x.1)
 
 unfoldable pub token_at : List ℕ → Result (Constraint × List ℕ) ℕ
 token_at bytes = do
@@ -47,7 +41,7 @@ token_at bytes = do
 -- how many constraints, and then each
 unfoldable pub walk_at : List ℕ → Result (List Constraint × List ℕ) ℕ
 walk_at bytes = do
-  count ← number_at 1 1000 bytes
+  count ← number_at 1 most_tokens bytes
   items_at (λ i. token_at) 0 count.0 count.1
 
 unfoldable pub walk_line_at : List ℕ → Result (List Constraint × List ℕ) ℕ
@@ -88,11 +82,11 @@ move_of p = record { carrier = p.0; step = p.1 }
 
 -- a pair, and how many children follow
 unfoldable pub counted_at : List ℕ → Result (((ℕ × ℕ) × ℕ) × List ℕ) ℕ
-counted_at bytes = ended (both_at pair_at (codes " ") (number_at 0 6) bytes)
+counted_at bytes = ended (both_at pair_at (codes " ") (number_at 0 most_children) bytes)
 
 -- two pairs, and how many periods later the second is
 unfoldable pub order_at : List ℕ → Result ((((ℕ × ℕ) × (ℕ × ℕ)) × ℤ) × List ℕ) ℕ
-order_at bytes = ended (both_at (λ b. both_at pair_at (codes " ") pair_at b) (codes " ") (signed_at 1000000000) bytes)
+order_at bytes = ended (both_at (λ b. both_at pair_at (codes " ") pair_at b) (codes " ") (signed_at most_shift) bytes)
 
 abbrev pub tail_word : Tail → List ℕ
 tail_word tails.End = end
@@ -112,11 +106,12 @@ tail_at bytes = do
   tail_rest tail.0 tail.1
 
 unfoldable pub stuck_at : Bool → List ℕ → Result ((ℕ × ℕ) × List ℕ) ℕ
-stuck_at true bytes = ended (number_at 0 32 bytes) >>= λ x. Ok ((0, x.0), x.1)
+stuck_at true bytes = ended (number_at 0 most_stage bytes) >>= λ x. Ok ((0, x.0), x.1)
 stuck_at false bytes = ended (pair_at bytes)
 
 unfoldable pub left_at : List ℕ → Result (Option (List Constraint) × List ℕ) ℕ
-left_at bytes = if begins 110 bytes then (word_at (codes "none\n") bytes >>= λ rest. Ok (None, rest)) else (walk_line_at bytes >>= λ x. Ok (Some x.0, x.1))
+left_at bytes =
+    if begins 110 bytes then (word_at (codes "none\n") bytes >>= λ rest. Ok (None, rest)) else (walk_line_at bytes >>= λ x. Ok (Some x.0, x.1))
 
 unfoldable pub row_rest : Bool → RowKind → List ℕ → Result (Row × List ℕ) ℕ
 row_rest single lines.Choose bytes = counted_at bytes >>= λ x. Ok (rows.Choose (visit_of x.0.0) x.0.1, x.1)

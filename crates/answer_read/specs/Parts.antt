@@ -1,13 +1,14 @@
 -- How the parts of an answer are read, one after another.
 use Rattle.std.specs.Prelude.{ℕ, List, [], ◌∷◌, codes, Bool, Option, Result, Ok}
-use Rattle.hoist_base.specs.LineData.{LineData}
+use Rattle.hoist_base.specs.LineData.{LineData, is_single}
 use Rattle.choice_tree.specs.declared.node.Node.{Node}
 use Rattle.timetable.specs.TimetableData.{TimetableData}
 use Rattle.answer_text.specs.declared.answer.Verdict.{Verdict}
 use Rattle.answer_text.specs.declared.answer.Verdict.TheVariants.{Optimal, Nothing, Unfinished}
 use Rattle.answer_text.specs.declared.answer.Answer.{Answer}
-use Rattle.answer_text.specs.Answers.{is_single, version_text, verdict_text}
-use Rattle.answer_read.specs.Reading.{◌>>=◌, word_at, number_at, kind_at}
+use Rattle.answer_text.specs.Limits.{most_bound, most_splits}
+use Rattle.answer_text.specs.Words.{version_text, verdict_text}
+use Rattle.field_reading.specs.Reading.{◌>>=◌, word_at, number_at, kind_at}
 use Rattle.answer_read.specs.Trees.{tree_at}
 use Rattle.answer_read.specs.Tables.{timetable_at}
 
@@ -24,9 +25,9 @@ verdict_at single bytes = do
 unfoldable pub numbers_at : List ℕ → Result ((ℕ × ℕ) × List ℕ) ℕ
 numbers_at bytes = do
   a ← word_at (codes "\nbound ") bytes
-  bound ← number_at 1 20001 a
+  bound ← number_at 1 most_bound a
   b ← word_at (codes "\nsplits ") bound.1
-  splits ← number_at 0 1000000000 b
+  splits ← number_at 0 most_splits b
   Ok ((bound.0, splits.0), splits.1)
 
 unfoldable pub table_part_at : LineData → List ℕ → Result (Option TimetableData × List ℕ) ℕ

@@ -1,15 +1,12 @@
 -- How the lines of the timetable are read.
-use Rattle.std.specs.Prelude.{ℕ, ◌*◌, ◌-◌, ◌/◌, ◌%◌, List, length, codes, decimal, get_or, map, Option, Some, None, Result, Ok, nat_lt, if◌then◌else◌}
+use Rattle.std.specs.Prelude.{ℕ, ◌-◌, List, length, codes, decimal, get_or, map, Option, Some, None, Result, Ok, nat_lt, if◌then◌else◌}
 use Rattle.std.specs.List.{concat}
-use Rattle.hoist_base.specs.LineData.{LineData, stage, last_stage, move_count}
+use Rattle.hoist_base.specs.declared.ids.VisitId.{VisitId}
+use Rattle.hoist_base.specs.LineData.{LineData, stage, last_stage, move_count, visit_count, visit_at}
+use Rattle.hoist_base.specs.LineData as numbered
 use Rattle.timetable.specs.TimetableData.{TimetableData, last_tick}
-use Rattle.answer_read.specs.Reading.{◌>>=◌, word_at, number_at, begins, both_at, ended, items_at}
-
-unfoldable pub pair_word_at : ℕ → ℕ → List ℕ → Result (List ℕ) ℕ
-pair_word_at c k bytes = do
-  a ← word_at (decimal c) bytes
-  b ← word_at (codes " ") a
-  word_at (decimal k) b
+use Rattle.answer_text.specs.Limits.{most_period, most_position}
+use Rattle.field_reading.specs.Reading.{◌>>=◌, word_at, known_pair_at, number_at, begins, both_at, ended, items_at}
 
 -- items of two numbers each, as two lists
 abbrev pub unzipped : Result (List (ℕ × ℕ) × List ℕ) ℕ → Result ((List ℕ × List ℕ) × List ℕ) ℕ
@@ -30,30 +27,30 @@ carrier_at c bytes = do
 unfoldable pub carriers_at : ℕ → List ℕ → Result ((List ℕ × List ℕ) × List ℕ) ℕ
 carriers_at count bytes = unzipped (items_at carrier_at 0 count bytes)
 
--- the tank of carrier c at a stage that has several
-unfoldable pub chosen_at : LineData → ℕ → ℕ → List ℕ → Result (ℕ × List ℕ) ℕ
-chosen_at l c k bytes = do
+-- the tank of a visit to a stage that has several
+unfoldable pub chosen_at : LineData → VisitId → List ℕ → Result (ℕ × List ℕ) ℕ
+chosen_at l v bytes = do
   a ← word_at (codes "choice ") bytes
-  b ← pair_word_at c k a
+  b ← known_pair_at v.carrier v.stage a
   d ← word_at (codes " ") b
-  x ← ended (number_at 0 (length (stage l k).tanks - 1) d)
-  Ok (get_or (stage l k).tanks x.0 0, x.1)
+  x ← ended (number_at 0 (length (stage l v.stage).tanks - 1) d)
+  Ok (get_or (stage l v.stage).tanks x.0 0, x.1)
 
 -- the tank of the visit with this number: nothing is written of a stage with one tank
 unfoldable pub choice_at : LineData → ℕ → List ℕ → Result (ℕ × List ℕ) ℕ
-choice_at l v bytes =
-    if nat_lt 1 (length (stage l (v % length l.stages)).tanks)
-    then chosen_at l (v / length l.stages) (v % length l.stages) bytes
-    else Ok (get_or (stage l (v % length l.stages)).tanks 0 0, bytes)
+choice_at l i bytes =
+    if nat_lt 1 (length (stage l (visit_at l i).stage).tanks)
+    then chosen_at l (visit_at l i) bytes
+    else Ok (get_or (stage l (visit_at l i).stage).tanks 0 0, bytes)
 
 unfoldable pub choices_at : LineData → List ℕ → Result (List ℕ × List ℕ) ℕ
-choices_at l bytes = items_at (choice_at l) 0 (l.degree * length l.stages) bytes
+choices_at l bytes = items_at (choice_at l) 0 (visit_count l) bytes
 
 -- when the move with this number starts, and its hoist
 unfoldable pub move_at : LineData → ℕ → List ℕ → Result ((ℕ × ℕ) × List ℕ) ℕ
-move_at l v bytes = do
+move_at l i bytes = do
   a ← word_at (codes "move ") bytes
-  b ← pair_word_at (v / last_stage l) (v % last_stage l) a
+  b ← known_pair_at (numbered.move_at l i).carrier (numbered.move_at l i).step a
   d ← word_at (codes " start ") b
   ended (both_at (number_at 0 last_tick) (codes " hoist ") (number_at 0 (l.hoists - 1)) d)
 
@@ -63,7 +60,7 @@ moves_at l bytes = unzipped (items_at (move_at l) 0 (move_count l) bytes)
 unfoldable pub position_at : List ℕ → Result (ℕ × List ℕ) ℕ
 position_at bytes = do
   a ← word_at (codes " ") bytes
-  number_at 0 1000 a
+  number_at 0 most_position a
 
 -- the positions of hoist h
 unfoldable pub path_at : ℕ → ℕ → List ℕ → Result (List ℕ × List ℕ) ℕ
@@ -90,7 +87,7 @@ table_of l period carriers tanks moves paths = record {
 
 unfoldable pub table_at : LineData → List ℕ → Result (TimetableData × List ℕ) ℕ
 table_at l bytes = do
-  period ← ended (number_at 1 20000 bytes)
+  period ← ended (number_at 1 most_period bytes)
   carriers ← carriers_at l.degree period.1
   tanks ← choices_at l carriers.1
   moves ← moves_at l tanks.1
@@ -100,4 +97,6 @@ table_at l bytes = do
 -- the word none, or a timetable
 unfoldable pub timetable_at : LineData → List ℕ → Result (Option TimetableData × List ℕ) ℕ
 timetable_at l bytes =
-    if begins 110 bytes then (word_at (codes "none\n") bytes >>= λ rest. Ok (None, rest)) else (table_at l bytes >>= λ x. Ok (Some x.0, x.1))
+    if begins 110 bytes
+    then (word_at (codes "none\n") bytes >>= λ rest. Ok (None, rest))
+    else (table_at l bytes >>= λ x. Ok (Some x.0, x.1))

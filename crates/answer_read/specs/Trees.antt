@@ -6,7 +6,7 @@ use Rattle.choice_tree.specs.declared.node.Node.TheVariants.{Split, Closed, Stuc
 use Rattle.choice_tree.specs.Nodes.{numbers_from}
 use Rattle.answer_read.specs.declared.row.Row.{Row}
 use Rattle.answer_read.specs.declared.row.Row.TheVariants as rows
-use Rattle.answer_read.specs.Reading.{◌>>=◌, forest_at}
+use Rattle.field_reading.specs.Reading.{◌>>=◌, forest_at}
 use Rattle.answer_read.specs.Lines.{row_at}
 
 -- how many children a line announces

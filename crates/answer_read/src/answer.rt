@@ -1,19 +1,18 @@
 // A whole answer, read from its text.
-ghost use Rattle.std.specs.Prelude.{◌≡◌, ◌≤◌, ◌^◌, length, codes, IfOk, ℕ, List};
+ghost use Rattle.std.specs.Prelude.{◌≡◌, ◌≤◌, ◌^◌, length, codes, IfOk};
+ghost use Rattle.hoist_base.specs.LineData.{is_single};
 ghost use Rattle.hoist_base.specs.Valid.{IsLine};
 ghost use Rattle.answer_text.specs.declared.answer.Answer.{Answer};
-ghost use Rattle.answer_text.specs.Answers.{is_single, version_text, verdict_text};
 ghost use Rattle.answer_read.specs.declared.answer.AnswerRead.TheVariants.{Ready};
-ghost use Rattle.answer_read.specs.Gives.{Gives};
+ghost use Rattle.field_reading.specs.Gives.{Gives};
 ghost use Rattle.answer_read.specs.Parts.{verdict_at, numbers_at, table_part_at, tree_part_at, answer_at};
 ghost use Rattle.answer_read.specs.Answers.{IsTextOf, IsRead};
 
-use crate::fields::{Worded, kind, number, word};
-use crate::stop::Stop;
 use crate::table::timetable;
 use crate::tree::tree;
-use answer_text::{Answer, Verdict};
+use answer_text::{Answer, MOST_BOUND, MOST_SPLITS, Verdict, version};
 use choice_tree::Tree;
+use field_reading::{Stop, kind, number, word};
 use hoist_base::Line;
 use std::alloc::{AllocError, Global};
 use timetable::Timetable;
@@ -25,38 +24,6 @@ use timetable::Timetable;
 pub enum AnswerRead {
     Ready(Answer),
     Broken { offset: u64 },
-}
-
-impl Worded for Verdict {
-    ghost word = { verdict_text };
-
-    fn word(&self) -> &'static [u8]
-        ensures { result.now ≡ verdict_text self.now }
-    {
-        match self {
-            Verdict::Optimal => b"optimal",
-            Verdict::Nothing => b"none",
-            Verdict::Unfinished => b"open",
-        }
-    }
-}
-
-/// Whether every stage of the line has one tank.
-fn single(line: &Line) -> bool
-    ensures value { result ≡ is_single line.now }
-    ensures valid { IsLine line.now }
-{
-    line.single()
-}
-
-fn version(single: bool) -> &'static [u8]
-    ensures { result.now ≡ version_text single }
-{
-    if single {
-        b"hoist answer 1\n"
-    } else {
-        b"hoist answer 2\n"
-    }
 }
 
 /// The first line, and the verdict.
@@ -76,9 +43,9 @@ fn numbers(bytes: &[u8]) -> Result<((u32, u32), &[u8]), Stop>
     ensures { Gives (λ x. (x.0, x.1.now)) result (numbers_at bytes.now) }
 {
     let rest = word(b"\nbound ", bytes)?;
-    let (bound, rest) = number(1, 20_001, rest)?;
+    let (bound, rest) = number(1, MOST_BOUND, rest)?;
     let rest = word(b"\nsplits ", rest)?;
-    let (splits, rest) = number(0, 1_000_000_000, rest)?;
+    let (splits, rest) = number(0, MOST_SPLITS, rest)?;
     Ok(((bound, splits), rest))
 }
 
@@ -139,7 +106,7 @@ pub fn read_answer(alloc: Global, line: &Line, bytes: &[u8]) -> Result<AnswerRea
     ensures found { IfOk result (λ r. IsRead line.now bytes.now r) }
     ensures only { (a : Answer) → IsTextOf line.now bytes.now a → IfOk result (λ r. r ≡ Ready a) }
 {
-    let single = single(line);
+    let single = line.single();
     match answer(alloc, line, single, bytes) {
         Ok((answer, rest)) => {
             if rest.is_empty() {

@@ -1,11 +1,9 @@
-// The reader of answers' texts: whole answers, or where the bytes stop being one.
+//! The reader of answers' texts: whole answers, or where the bytes stop being one.
 #![tactic(auto)]
 
 mod answer;
-mod fields;
 mod lines;
 mod row;
-mod stop;
 mod table;
 #[cfg(test)]
 mod tests;

@@ -1,32 +1,20 @@
 // Constraints, walks and lines of the tree, read from the front of the bytes.
 ghost use Rattle.std.specs.Prelude.{◌≡◌, length, codes};
-ghost use Rattle.answer_read.specs.Reading.{items_at, kind_at};
-ghost use Rattle.answer_read.specs.Gives.{Gives};
-ghost use Rattle.answer_read.specs.Lines.{token_word, row_word, row_kinds, tail_word, pair_at, token_rest, token_at, walk_at, walk_line_at, counted_at, order_at, tail_rest, tail_at, stuck_at, left_at, row_rest, row_at};
+ghost use Rattle.field_reading.specs.Reading.{items_at, kind_at};
+ghost use Rattle.field_reading.specs.Gives.{Gives};
+ghost use Rattle.answer_read.specs.Lines.{row_word, row_kinds, tail_word, row_rest, row_at};
+ghost use Rattle.answer_read.specs.Lines.{pair_at, token_rest, token_at, walk_at, walk_line_at};
+ghost use Rattle.answer_read.specs.Lines.{counted_at, order_at, tail_rest, tail_at, stuck_at, left_at};
 
-use crate::fields::{Worded, kind, number, signed, word};
-use crate::row::{Row, RowKind, Tail, TokenKind};
-use crate::stop::Stop;
+use crate::row::{Row, RowKind, Tail};
+use answer_text::{
+    MOST_CARRIER, MOST_CHILDREN, MOST_DECISION, MOST_SHIFT, MOST_STAGE, MOST_TOKENS, TokenKind,
+};
 use choice_tree::{Constraint, Proof};
+use field_reading::{Stop, kind, number, signed, word};
 use hoist_base::{MoveId, VisitId};
 use std::alloc::Global;
-
-impl Worded for TokenKind {
-    ghost word = { token_word };
-
-    fn word(&self) -> &'static [u8]
-        ensures { result.now ≡ token_word self.now }
-    {
-        match self {
-            TokenKind::Min => b" m ",
-            TokenKind::Max => b" x ",
-            TokenKind::Entry => b" e ",
-            TokenKind::Visit => b" v ",
-            TokenKind::Repeat => b" r ",
-            TokenKind::Decided => b" d ",
-        }
-    }
-}
+use text_writing::Worded;
 
 impl Worded for RowKind {
     ghost word = { row_word };
@@ -66,9 +54,9 @@ impl Worded for Tail {
 fn pair(bytes: &[u8]) -> Result<((u32, u32), &[u8]), Stop>
     ensures { Gives (λ x. (x.0, x.1.now)) result (pair_at bytes.now) }
 {
-    let (c, rest) = number(0, 3, bytes)?;
+    let (c, rest) = number(0, MOST_CARRIER, bytes)?;
     let rest = word(b" ", rest)?;
-    let (k, rest) = number(0, 32, rest)?;
+    let (k, rest) = number(0, MOST_STAGE, rest)?;
     Ok(((c, k), rest))
 }
 
@@ -87,7 +75,7 @@ fn token_of(kind: TokenKind, bytes: &[u8]) -> Result<(Constraint, &[u8]), Stop>
             Ok((Constraint::Max { c, k }, rest))
         }
         TokenKind::Entry => {
-            let (c, rest) = number(0, 3, bytes)?;
+            let (c, rest) = number(0, MOST_CARRIER, bytes)?;
             Ok((Constraint::Entry { c }, rest))
         }
         TokenKind::Visit => {
@@ -99,7 +87,7 @@ fn token_of(kind: TokenKind, bytes: &[u8]) -> Result<(Constraint, &[u8]), Stop>
             Ok((Constraint::Repeat { c, k }, rest))
         }
         TokenKind::Decided => {
-            let (i, rest) = number(0, 19_999, bytes)?;
+            let (i, rest) = number(0, MOST_DECISION, bytes)?;
             Ok((Constraint::Decided { i }, rest))
         }
     }
@@ -141,7 +129,7 @@ fn tokens(alloc: Global, count: u32, bytes: &[u8]) -> Result<(Vec<Constraint>, &
 fn walk(alloc: Global, bytes: &[u8]) -> Result<(Proof, &[u8]), Stop>
     ensures { Gives (λ x. (x.0, x.1.now)) result (walk_at bytes.now) }
 {
-    let (count, rest) = number(1, 1000, bytes)?;
+    let (count, rest) = number(1, MOST_TOKENS, bytes)?;
     let (items, rest) = tokens(alloc, count, rest)?;
     Ok((Proof::from_vec(items), rest))
 }
@@ -163,7 +151,7 @@ fn counted(bytes: &[u8]) -> Result<(((u32, u32), u32), &[u8]), Stop>
 {
     let (named, rest) = pair(bytes)?;
     let rest = word(b" ", rest)?;
-    let (children, rest) = number(0, 6, rest)?;
+    let (children, rest) = number(0, MOST_CHILDREN, rest)?;
     let rest = word(b"\n", rest)?;
     Ok(((named, children), rest))
 }
@@ -177,7 +165,7 @@ fn order(bytes: &[u8]) -> Result<((((u32, u32), (u32, u32)), i64), &[u8]), Stop>
     let rest = word(b" ", rest)?;
     let (b, rest) = pair(rest)?;
     let rest = word(b" ", rest)?;
-    let (q, rest) = signed(1_000_000_000, rest)?;
+    let (q, rest) = signed(MOST_SHIFT, rest)?;
     let rest = word(b"\n", rest)?;
     Ok((((a, b), q), rest))
 }
@@ -212,7 +200,7 @@ fn stuck(single: bool, bytes: &[u8]) -> Result<((u32, u32), &[u8]), Stop>
     ensures { Gives (λ x. (x.0, x.1.now)) result (stuck_at single bytes.now) }
 {
     if single {
-        let (step, rest) = number(0, 32, bytes)?;
+        let (step, rest) = number(0, MOST_STAGE, bytes)?;
         let rest = word(b"\n", rest)?;
         Ok(((0, step), rest))
     } else {

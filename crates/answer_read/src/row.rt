@@ -30,17 +30,6 @@ pub(crate) enum RowKind {
     Left,
 }
 
-/// The letters that begin a constraint.
-#[derive(Clone, Copy, Debug, PartialEq, Eq)]
-pub(crate) enum TokenKind {
-    Min,
-    Max,
-    Entry,
-    Visit,
-    Repeat,
-    Decided,
-}
-
 /// What follows the low walk of a closed line.
 #[derive(Clone, Copy, Debug, PartialEq, Eq)]
 pub(crate) enum Tail {

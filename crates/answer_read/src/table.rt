@@ -1,33 +1,18 @@
 // The lines of a timetable, read from the front of the bytes.
-ghost use Rattle.std.specs.Prelude.{◌≡◌, ◌+◌, ◌*◌, ◌<◌, ◌≤◌, ◌/◌, ◌%◌, length, get_or, codes, decimal};
-ghost use Rattle.answer_read.specs.Reading.{word_at, number_at, both_at, ended, items_at, with_front};
-ghost use Rattle.answer_read.specs.Gives.{Gives};
-ghost use Rattle.answer_read.specs.Tables.{pair_word_at, carrier_at, carriers_at, chosen_at, choice_at, choices_at, move_at, moves_at, position_at, path_at, paths_at, table_at, timetable_at};
+ghost use Rattle.std.specs.Prelude.{◌≡◌, ◌<◌, ◌≤◌, length, get_or, codes};
+ghost use Rattle.hoist_base.specs.LineData.{IsStageOf, move_count, visit_count};
+ghost use Rattle.timetable.specs.TimetableData.{last_tick};
+ghost use Rattle.field_reading.specs.Reading.{word_at, number_at, both_at, ended, items_at, with_front};
+ghost use Rattle.field_reading.specs.Gives.{Gives};
+ghost use Rattle.answer_read.specs.Tables.{carrier_at, carriers_at, chosen_at, choice_at, choices_at, move_at};
+ghost use Rattle.answer_read.specs.Tables.{moves_at};
+ghost use Rattle.answer_read.specs.Tables.{position_at, path_at, paths_at, table_at, timetable_at};
 
-use crate::fields::{number, word};
-use crate::stop::Stop;
-use hoist_base::Line;
-use itoa::Buffer;
+use answer_text::{LAST_TICK, MOST_PERIOD, MOST_POSITION};
+use field_reading::{Stop, known_number, known_pair, number, word};
+use hoist_base::{Line, VisitId};
 use std::alloc::Global;
 use timetable::{Timetable, TimetableParts};
-
-/// The bytes behind this number.
-fn named(n: u32, bytes: &[u8]) -> Result<&[u8], Stop>
-    ensures { Gives (λ x. x.now) result (word_at (decimal n) bytes.now) }
-{
-    let mut buffer = Buffer::new();
-    word(buffer.format(n).as_bytes(), bytes)
-}
-
-/// The bytes behind these two numbers.
-#[tactic(auto, unfolding(crate::specs::Tables::pair_word_at))]
-fn named_pair(c: u32, k: u32, bytes: &[u8]) -> Result<&[u8], Stop>
-    ensures { Gives (λ x. x.now) result (pair_word_at c k bytes.now) }
-{
-    let rest = named(c, bytes)?;
-    let rest = word(b" ", rest)?;
-    named(k, rest)
-}
 
 /// A tick, a word, and a number up to `most`, to the end of the line.
 fn two_numbers<'a>(
@@ -35,9 +20,10 @@ fn two_numbers<'a>(
     most: u32,
     bytes: &'a [u8],
 ) -> Result<((u64, u32), &'a [u8]), Stop>
-    ensures { Gives (λ x. (x.0, x.1.now)) result (ended (both_at (number_at 0 1000000000) between.now (number_at 0 most) bytes.now)) }
+    ensures { Gives (λ x. (x.0, x.1.now)) result (ended
+        (both_at (number_at 0 last_tick) between.now (number_at 0 most) bytes.now)) }
 {
-    let (first, rest) = number(0, 1_000_000_000, bytes)?;
+    let (first, rest) = number(0, LAST_TICK, bytes)?;
     let rest = word(between, rest)?;
     let (second, rest) = number(0, most, rest)?;
     let rest = word(b"\n", rest)?;
@@ -50,9 +36,9 @@ fn carrier(c: u32, bytes: &[u8]) -> Result<((u64, u32), &[u8]), Stop>
     ensures { Gives (λ x. (x.0, x.1.now)) result (carrier_at c bytes.now) }
 {
     let rest = word(b"carrier ", bytes)?;
-    let rest = named(c, rest)?;
+    let rest = known_number(c, rest)?;
     let rest = word(b" put ", rest)?;
-    two_numbers(b" off ", 1_000_000_000, rest)
+    two_numbers(b" off ", LAST_TICK, rest)
 }
 
 /// The lines of the carriers.
@@ -72,15 +58,15 @@ fn carriers(alloc: Global, count: u32, bytes: &[u8]) -> Result<((Vec<u64>, Vec<u
     Ok(((put, off), rest))
 }
 
-/// The line of a stage that has several tanks: which of them carrier `c` uses.
+/// The line of a stage that has several tanks: which of them the carrier uses.
 #[tactic(auto, unfolding(crate::specs::Tables::chosen_at))]
-fn chosen<'a>(line: &Line, c: u32, k: u32, bytes: &'a [u8]) -> Result<(u32, &'a [u8]), Stop>
-    requires { k < length line.now.stages }
-    ensures { Gives (λ x. (x.0, x.1.now)) result (chosen_at line.now c k bytes.now) }
+fn chosen<'a>(line: &Line, v: VisitId, bytes: &'a [u8]) -> Result<(u32, &'a [u8]), Stop>
+    requires { IsStageOf line.now v.stage }
+    ensures { Gives (λ x. (x.0, x.1.now)) result (chosen_at line.now v bytes.now) }
 {
-    let tanks = line.stages()[k as usize].tanks.as_slice();
+    let tanks = line.stages()[v.stage as usize].tanks.as_slice();
     let rest = word(b"choice ", bytes)?;
-    let rest = named_pair(c, k, rest)?;
+    let rest = known_pair(v.carrier, v.stage, rest)?;
     let rest = word(b" ", rest)?;
     let (j, rest) = number(0, tanks.len() as u32 - 1, rest)?;
     let rest = word(b"\n", rest)?;
@@ -89,14 +75,14 @@ fn chosen<'a>(line: &Line, c: u32, k: u32, bytes: &'a [u8]) -> Result<(u32, &'a 
 
 /// The tank of the visit with this number: nothing is written of a stage with one tank.
 #[tactic(auto, unfolding(crate::specs::Tables::choice_at))]
-fn choice<'a>(line: &Line, visit: u32, bytes: &'a [u8]) -> Result<(u32, &'a [u8]), Stop>
-    ensures { Gives (λ x. (x.0, x.1.now)) result (choice_at line.now visit bytes.now) }
+fn choice<'a>(line: &Line, number: u32, bytes: &'a [u8]) -> Result<(u32, &'a [u8]), Stop>
+    requires { number < visit_count line.now }
+    ensures { Gives (λ x. (x.0, x.1.now)) result (choice_at line.now number bytes.now) }
 {
-    let stages = line.inner() + 2;
-    let (c, k) = (visit / stages, visit % stages);
-    let tanks = line.stages()[k as usize].tanks.as_slice();
+    let v = line.visit_at(number);
+    let tanks = line.stages()[v.stage as usize].tanks.as_slice();
     if tanks.len() > 1 {
-        chosen(line, c, k, bytes)
+        chosen(line, v, bytes)
     } else {
         Ok((tanks[0], bytes))
     }
@@ -107,11 +93,11 @@ fn choice<'a>(line: &Line, visit: u32, bytes: &'a [u8]) -> Result<(u32, &'a [u8]
 fn choices<'a>(alloc: Global, line: &Line, bytes: &'a [u8]) -> Result<(Vec<u32>, &'a [u8]), Stop>
     ensures { Gives (λ x. (x.0.items, x.1.now)) result (choices_at line.now bytes.now) }
 {
-    let count = line.degree() * (line.inner() + 2);
+    let count = line.visit_count();
     let mut tanks = Vec::with_capacity(alloc, count as usize)?;
     let mut rest = bytes;
-    for visit in 0..count {
-        let (tank, after) = choice(line, visit, rest)?;
+    for number in 0..count {
+        let (tank, after) = choice(line, number, rest)?;
         tanks.push(tank)?;
         rest = after;
     }
@@ -121,11 +107,12 @@ fn choices<'a>(alloc: Global, line: &Line, bytes: &'a [u8]) -> Result<(Vec<u32>,
 /// The line of the move with this number: when it starts, and its hoist.
 #[tactic(auto, unfolding(crate::specs::Tables::move_at))]
 fn move_line<'a>(line: &Line, number: u32, bytes: &'a [u8]) -> Result<((u64, u32), &'a [u8]), Stop>
+    requires { number < move_count line.now }
     ensures { Gives (λ x. (x.0, x.1.now)) result (move_at line.now number bytes.now) }
 {
-    let steps = line.inner() + 1;
+    let m = line.move_at(number);
     let rest = word(b"move ", bytes)?;
-    let rest = named_pair(number / steps, number % steps, rest)?;
+    let rest = known_pair(m.carrier, m.step, rest)?;
     let rest = word(b" start ", rest)?;
     two_numbers(b" hoist ", line.hoists() - 1, rest)
 }
@@ -139,7 +126,7 @@ fn moves<'a>(
 ) -> Result<((Vec<u64>, Vec<u32>), &'a [u8]), Stop>
     ensures { Gives (λ x. ((x.0.0.items, x.0.1.items), x.1.now)) result (moves_at line.now bytes.now) }
 {
-    let count = line.degree() * (line.inner() + 1);
+    let count = line.move_count();
     let mut start = Vec::with_capacity(alloc, count as usize)?;
     let mut hoist = Vec::with_capacity(alloc, count as usize)?;
     let mut rest = bytes;
@@ -157,12 +144,13 @@ fn position(bytes: &[u8]) -> Result<(u32, &[u8]), Stop>
     ensures { Gives (λ x. (x.0, x.1.now)) result (position_at bytes.now) }
 {
     let rest = word(b" ", bytes)?;
-    number(0, 1000, rest)
+    number(0, MOST_POSITION, rest)
 }
 
 /// Puts so many positions behind those in `path`.
 fn positions<'a>(path: &mut Vec<u32>, count: u32, bytes: &'a [u8]) -> Result<&'a [u8], Stop>
-    ensures { Gives (λ x. (path.new.items, x.now)) result (with_front path.old.items (items_at (λ t. position_at) 0 count bytes.now)) }
+    ensures { Gives (λ x. (path.new.items, x.now)) result
+        (with_front path.old.items (items_at (λ t. position_at) 0 count bytes.now)) }
 {
     let mut rest = bytes;
     for t in 0..count {
@@ -184,7 +172,7 @@ fn path_line<'a>(
     ensures { Gives (λ x. (path.new.items, x.now)) result (with_front path.old.items (path_at period h bytes.now)) }
 {
     let rest = word(b"path ", bytes)?;
-    let rest = named(h, rest)?;
+    let rest = known_number(h, rest)?;
     let rest = positions(path, period, rest)?;
     word(b"\n", rest)
 }
@@ -207,7 +195,7 @@ fn paths(alloc: Global, hoists: u32, period: u32, bytes: &[u8]) -> Result<(Vec<u
 fn table<'a>(alloc: Global, line: &Line, bytes: &'a [u8]) -> Result<(Timetable, &'a [u8]), Stop>
     ensures { Gives (λ x. (x.0, x.1.now)) result (table_at line.now bytes.now) }
 {
-    let (period, rest) = number(1, 20_000, bytes)?;
+    let (period, rest) = number(1, MOST_PERIOD, bytes)?;
     let rest = word(b"\n", rest)?;
     let ((put, off), rest) = carriers(alloc, line.degree(), rest)?;
     let (tank, rest) = choices(alloc, line, rest)?;

@@ -7,36 +7,52 @@ use std::alloc::{AllocError, Global};
 use std::test::Fail;
 use worked_lines::{far_tank, one_bath, slow_choice, two_hoists, two_stations};
 
+/// No longer text is read.
+const MOST_BYTES: usize = 1 << 30;
+
 const TWO_STATIONS: &str =
-    "hoist answer 1\nverdict optimal\nbound 10\nsplits 0\ntimetable 10\ncarrier 0 put 0 off 10\nmove 0 0 start 2 hoist 0\npath 0 2 1 0 0 1 2 3 4 4 3\ntree\nsolved 1 r 0 0\nend\n";
+    "hoist answer 1\nverdict optimal\nbound 10\nsplits 0\ntimetable 10\ncarrier 0 put 0 off 10\n\
+     move 0 0 start 2 hoist 0\npath 0 2 1 0 0 1 2 3 4 4 3\ntree\nsolved 1 r 0 0\nend\n";
 
 const UNREACHED: &str =
     "hoist answer 1\nverdict none\nbound 101\nsplits 0\ntimetable none\ntree\nclosed stuck 0\nend\n";
 
 const ONE_BATH: &str =
-    "hoist answer 1\nverdict optimal\nbound 21\nsplits 2\ntimetable 21\ncarrier 0 put 0 off 15\nmove 0 0 start 0 hoist 0\nmove 0 1 start 10 hoist 0\npath 0 0 0 1 2 3 3 2 1 1 2 3 3 4 5 6 6 5 4 3 2 1\ntree\nsplit hoist 0 0 0 1 -2\nclosed low 1 r 0 0 high 2 d 0 v 0 1\nsplit hoist 0 0 0 1 -1\nclosed low 2 d 1 d 0 high 2 d 1 x 0 1\nsolved 2 m 0 1 d 1\nend\n";
+    "hoist answer 1\nverdict optimal\nbound 21\nsplits 2\ntimetable 21\ncarrier 0 put 0 off 15\n\
+     move 0 0 start 0 hoist 0\nmove 0 1 start 10 hoist 0\npath 0 0 0 1 2 3 3 2 1 1 2 3 3 4 5 6 6 5 4 3 2 1\n\
+     tree\nsplit hoist 0 0 0 1 -2\nclosed low 1 r 0 0 high 2 d 0 v 0 1\nsplit hoist 0 0 0 1 -1\n\
+     closed low 2 d 1 d 0 high 2 d 1 x 0 1\nsolved 2 m 0 1 d 1\nend\n";
 
 const ONE_BATH_NONE: &str =
-    "hoist answer 1\nverdict none\nbound 21\nsplits 2\ntimetable none\ntree\nsplit hoist 0 0 0 1 -2\nclosed low 1 r 0 0 high 2 d 0 v 0 1\nsplit hoist 0 0 0 1 -1\nclosed low 2 d 1 d 0 high 2 d 1 x 0 1\nclosed low 2 m 0 1 d 1\nend\n";
+    "hoist answer 1\nverdict none\nbound 21\nsplits 2\ntimetable none\ntree\nsplit hoist 0 0 0 1 -2\n\
+     closed low 1 r 0 0 high 2 d 0 v 0 1\nsplit hoist 0 0 0 1 -1\nclosed low 2 d 1 d 0 high 2 d 1 x 0 1\n\
+     closed low 2 m 0 1 d 1\nend\n";
 
 const ONE_BATH_LEFT: &str =
-    "hoist answer 1\nverdict open\nbound 8\nsplits 1\ntimetable none\ntree\nsplit hoist 0 0 0 1 -2\nleft 1 r 0 0\nleft 1 r 0 0\nend\n";
+    "hoist answer 1\nverdict open\nbound 8\nsplits 1\ntimetable none\ntree\nsplit hoist 0 0 0 1 -2\n\
+     left 1 r 0 0\nleft 1 r 0 0\nend\n";
 
 const TWO_HOISTS: &str =
-    "hoist answer 1\nverdict optimal\nbound 9\nsplits 1\ntimetable 9\ncarrier 0 put 0 off 15\nmove 0 0 start 0 hoist 0\nmove 0 1 start 10 hoist 1\npath 0 0 0 1 2 3 3 2 1 0\npath 1 3 3 3 4 5 6 6 5 4\ntree\nsplit hoist 0 0 0 1 -1\nclosed low 1 r 0 0 high 2 d 0 v 0 1\nsolved 2 m 0 1 d 0\nend\n";
+    "hoist answer 1\nverdict optimal\nbound 9\nsplits 1\ntimetable 9\ncarrier 0 put 0 off 15\n\
+     move 0 0 start 0 hoist 0\nmove 0 1 start 10 hoist 1\npath 0 0 0 1 2 3 3 2 1 0\npath 1 3 3 3 4 5 6 6 5 4\n\
+     tree\nsplit hoist 0 0 0 1 -1\nclosed low 1 r 0 0 high 2 d 0 v 0 1\nsolved 2 m 0 1 d 0\nend\n";
 
 const TWO_HOISTS_OPEN: &str =
     "hoist answer 1\nverdict open\nbound 1\nsplits 0\ntimetable none\ntree\nleft none\nend\n";
 
 const FAR_TANK: &str =
-    "hoist answer 2\nverdict optimal\nbound 9\nsplits 2\ntimetable 9\ncarrier 0 put 0 off 15\nchoice 0 1 1\nmove 0 0 start 0 hoist 0\nmove 0 1 start 10 hoist 1\npath 0 0 0 1 2 3 3 2 1 0\npath 1 3 3 3 4 5 6 6 5 4\ntree\nsplit choose 0 1 2\nclosed stuck 0 0\nsplit hoist 0 0 0 1 -1\nclosed low 1 r 0 0 high 2 d 1 v 0 1\nsolved 2 m 0 1 d 1\nend\n";
+    "hoist answer 2\nverdict optimal\nbound 9\nsplits 2\ntimetable 9\ncarrier 0 put 0 off 15\nchoice 0 1 1\n\
+     move 0 0 start 0 hoist 0\nmove 0 1 start 10 hoist 1\npath 0 0 0 1 2 3 3 2 1 0\npath 1 3 3 3 4 5 6 6 5 4\n\
+     tree\nsplit choose 0 1 2\nclosed stuck 0 0\nsplit hoist 0 0 0 1 -1\nclosed low 1 r 0 0 high 2 d 1 v 0 1\n\
+     solved 2 m 0 1 d 1\nend\n";
 
 const SLOW_CHOICE: &str =
-    "hoist answer 2\nverdict open\nbound 51\nsplits 1\ntimetable none\ntree\nsplit choose 0 1 2\nleft 2 m 0 1 v 0 1\nleft 2 m 0 1 v 0 1\nend\n";
+    "hoist answer 2\nverdict open\nbound 51\nsplits 1\ntimetable none\ntree\nsplit choose 0 1 2\n\
+     left 2 m 0 1 v 0 1\nleft 2 m 0 1 v 0 1\nend\n";
 
 /// Whether the text is read, and gives the same bytes when it is written again.
 fn comes_again(alloc: Global, line: &Line, text: &[u8]) -> Result<bool, AllocError> {
-    if text.len() > 1_000_000 {
+    if text.len() > MOST_BYTES {
         return Ok(false);
     }
     match read_answer(alloc, line, text)? {
@@ -50,7 +66,7 @@ fn comes_again(alloc: Global, line: &Line, text: &[u8]) -> Result<bool, AllocErr
 
 /// Where the text breaks.
 fn offset(alloc: Global, line: &Line, text: &[u8]) -> Result<Option<u64>, AllocError> {
-    if text.len() > 1_000_000 {
+    if text.len() > MOST_BYTES {
         return Ok(None);
     }
     match read_answer(alloc, line, text)? {
@@ -248,18 +264,6 @@ fn breaking_bytes(rt: HostRuntime) -> Result<(), Fail> {
     Ok(())
 }
 
-/// The first 20 bytes of a text are no text.
-#[test]
-fn twenty_bytes(rt: HostRuntime) -> Result<(), Fail> {
-    let alloc = rt.alloc();
-    let Some(line) = two_hoists(alloc) else {
-        return Ok(());
-    };
-    let bytes = TWO_HOISTS.as_bytes();
-    assert_eq!(rt; offset(alloc, &line, &bytes[..20])?, Some(20));
-    Ok(())
-}
-
 /// A tree that is `depth` splits deep, as a text.
 fn deep_text(alloc: Global, depth: u32) -> Result<Vec<u8>, AllocError> {
     let mut text = Vec::from_slice(alloc, TREE.as_bytes())?;
@@ -270,18 +274,27 @@ fn deep_text(alloc: Global, depth: u32) -> Result<Vec<u8>, AllocError> {
     Ok(text)
 }
 
+/// How many nodes the tree of the text has, where it is read.
+fn node_count(alloc: Global, line: Option<Line>, text: &[u8]) -> Result<Option<u32>, AllocError> {
+    let Some(line) = line else {
+        return Ok(None);
+    };
+    if text.len() > MOST_BYTES {
+        return Ok(None);
+    }
+    match read_answer(alloc, &line, text)? {
+        AnswerRead::Ready(answer) => Ok(Some(answer.tree.len())),
+        AnswerRead::Broken { .. } => Ok(None),
+    }
+}
+
 #[test]
 fn deep_tree(rt: HostRuntime) -> Result<(), Fail> {
     let alloc = rt.alloc();
-    let Some(line) = one_bath(alloc) else {
-        return Ok(());
-    };
     let text = deep_text(alloc, 20_000)?;
-    if text.len() < 10_000_000 {
-        match read_answer(alloc, &line, text.as_slice())? {
-            AnswerRead::Ready(answer) => assert_eq!(rt; answer.tree.len(), 40_001),
-            AnswerRead::Broken { .. } => assert!(rt; false),
-        }
-    }
+    assert_eq!(rt;
+        node_count(alloc, one_bath(alloc), text.as_slice())?,
+        Some(40_001)
+    );
     Ok(())
 }

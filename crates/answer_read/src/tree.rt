@@ -1,13 +1,14 @@
 // The tree, read line by line.
 ghost use Rattle.std.specs.Prelude.{◌≡◌, ◌<◌, ◌≤◌, ◌+◌, ◌^◌, ◌++◌, [], length, reverse, OnOk, slice_set};
 ghost use Rattle.choice_tree.specs.Nodes.{node_at, IsLeft, IsLeaf, numbers_from, split_at};
-ghost use Rattle.answer_read.specs.Gives.{Gives};
+ghost use Rattle.answer_text.specs.Limits.{most_children};
+ghost use Rattle.field_reading.specs.Gives.{Gives};
 ghost use Rattle.answer_read.specs.Trees.{arity, placed, tree_at};
 
 use crate::lines::row;
 use crate::row::Row;
-use crate::stop::Stop;
 use choice_tree::{Node, Proof, Question, Tree};
+use field_reading::Stop;
 use std::alloc::{AllocError, Global};
 
 /// The nodes `first`, `first + 1` and so on wait, the first of them on top.
@@ -34,10 +35,11 @@ fn split(
 ) -> Result<(), AllocError>
     requires there { i < length tree.old }
     requires left { IsLeft (node_at tree.old i) }
-    requires few { children ≤ 6 }
+    requires few { children ≤ most_children }
     requires room { length tree.old + children < 2 ^ 32 }
     ensures tree { OnOk result (tree.new ≡ split_at tree.old i question children none.now) }
-    ensures waiting { OnOk result (reverse waiting.new.items ≡ numbers_from (length tree.old) children ++ reverse waiting.old.items) }
+    ensures waiting { OnOk result (reverse waiting.new.items ≡ numbers_from (length tree.old) children
+        ++ reverse waiting.old.items) }
 {
     let first = tree.len();
     tree.split(i, question, children, none)?;
@@ -55,11 +57,12 @@ fn place(
 ) -> Result<(), AllocError>
     requires there { i < length tree.old }
     requires left { IsLeft (node_at tree.old i) }
-    requires few { arity row ≤ 6 }
+    requires few { arity row ≤ most_children }
     requires room { length tree.old + arity row < 2 ^ 32 }
     requires none { none.now ≡ [] }
     ensures tree { OnOk result (tree.new ≡ placed tree.old i row) }
-    ensures waiting { OnOk result (reverse waiting.new.items ≡ numbers_from (length tree.old) (arity row) ++ reverse waiting.old.items) }
+    ensures waiting { OnOk result (reverse waiting.new.items ≡ numbers_from (length tree.old) (arity row)
+        ++ reverse waiting.old.items) }
 {
     match row {
         Row::Choose { v, children } => {

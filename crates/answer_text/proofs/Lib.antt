@@ -1,5 +1,4 @@
 pub mod RowLemmas
 pub mod OrderLemmas
 pub mod JoinLemmas
-pub mod SingleLemmas
 pub mod WriteLemmas

@@ -1,10 +1,11 @@
 -- The parts of an answer's text, one behind another.
 use Rattle.std.proofs.Common.{◌≡◌, ℕ, Bool, List, [], ◌++◌, codes, decimal, ap, ◌∙◌, append_assoc}
-use Rattle.hoist_base.specs.LineData.{LineData}
+use Rattle.hoist_base.specs.LineData.{LineData, is_single}
 use Rattle.answer_text.specs.declared.answer.Answer.{Answer}
 use Rattle.answer_text.specs.Nodes.{tree_text}
 use Rattle.answer_text.specs.Tables.{timetable_text}
-use Rattle.answer_text.specs.Answers.{is_single, version_text, verdict_text, answer_text}
+use Rattle.answer_text.specs.Words.{version_text, verdict_text}
+use Rattle.answer_text.specs.Answers.{answer_text}
 use Rattle.answer_text.proofs.JoinLemmas.{two_parts}
 
 -- four words joined, and what stands behind them

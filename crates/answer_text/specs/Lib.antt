@@ -1,3 +1,5 @@
+pub mod Limits
+pub mod Words
 pub mod Fields
 pub mod Nodes
 pub mod Tables

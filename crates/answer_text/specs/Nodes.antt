@@ -8,7 +8,9 @@ use Rattle.choice_tree.specs.declared.node.Node.{Node}
 use Rattle.choice_tree.specs.declared.node.Node.TheVariants.{Split, Closed, Stuck, Solved, Left}
 use Rattle.choice_tree.specs.Nodes.{node_at}
 use Rattle.choice_tree.specs.Trees.{preorder}
-use Rattle.answer_text.specs.Fields.{end, pair_text, walk_text, IsPair, IsWalk}
+use Rattle.text_writing.specs.Texts.{end, pair_text}
+use Rattle.answer_text.specs.Limits.{most_stage, most_children, most_shift}
+use Rattle.answer_text.specs.Fields.{walk_text, IsPair, IsWalk}
 
 -- a question, and how many children follow where that isn't always two
 abbrev pub question_text : Question → ℕ → List ℕ
@@ -55,12 +57,12 @@ IsWalkOr None = Unit {0}
 IsWalkOr (Some walk) = IsWalk walk
 
 abbrev pub IsQuestionText : Bool → Question → ℕ → Type 0
-IsQuestionText single (Choose v) children = (single ≡ false) × IsPair v.carrier v.stage × (children ≤ 6)
+IsQuestionText single (Choose v) children = (single ≡ false) × IsPair v.carrier v.stage × (children ≤ most_children)
 IsQuestionText single (TankOrder a b q) children =
-    IsPair a.carrier a.stage × IsPair b.carrier b.stage × (unsigned_abs q ≤ 1000000000) × (children ≡ 2)
+    IsPair a.carrier a.stage × IsPair b.carrier b.stage × (unsigned_abs q ≤ most_shift) × (children ≡ 2)
 IsQuestionText single (HoistOrder a b q) children =
-    IsPair a.carrier a.step × IsPair b.carrier b.step × (unsigned_abs q ≤ 1000000000) × (children ≡ 2)
-IsQuestionText single (Assign m) children = IsPair m.carrier m.step × (children ≤ 6)
+    IsPair a.carrier a.step × IsPair b.carrier b.step × (unsigned_abs q ≤ most_shift) × (children ≡ 2)
+IsQuestionText single (Assign m) children = IsPair m.carrier m.step × (children ≤ most_children)
 
 -- a closed leaf has a walk at least
 abbrev pub AreWalks : Option (List Constraint) → Option (List Constraint) → Type 0
@@ -69,7 +71,7 @@ AreWalks None (Some high) = IsWalk high
 AreWalks (Some low) high = IsWalk low × IsWalkOr high
 
 abbrev pub IsStuckText : Bool → ℕ → ℕ → Type 0
-IsStuckText true c k = (c ≡ 0) × (k ≤ 32)
+IsStuckText true c k = (c ≡ 0) × (k ≤ most_stage)
 IsStuckText false c k = IsPair c k
 
 abbrev pub IsNodeText : Bool → Node → Type 0

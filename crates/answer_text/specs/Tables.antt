@@ -4,7 +4,7 @@ use Rattle.std.specs.List.{range_with_len, position_or_len}
 use Rattle.hoist_base.specs.LineData.{LineData, stage, last_stage}
 use Rattle.line_model.specs.Timetable.{Timetable}
 use Rattle.timetable.specs.TimetableData.{TimetableData, timetable_of}
-use Rattle.answer_text.specs.Fields.{end, pair_text}
+use Rattle.text_writing.specs.Texts.{end, pair_text}
 
 abbrev pub carrier_line : Timetable → ℕ → List ℕ
 carrier_line p c = codes "carrier " ++ (decimal c ++ (codes " put " ++ (decimal (p.put c) ++ (codes " off " ++ (decimal (p.off c) ++ end)))))

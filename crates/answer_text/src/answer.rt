@@ -2,8 +2,8 @@
 use choice_tree::Tree;
 use timetable::Timetable;
 
-/// What an answer claims of the line: that its timetable has the least period, that there is none up to the line's greatest
-/// period, or that neither is known yet.
+/// What an answer claims of the line: that its timetable has the least period, that there is none up to the line's
+/// greatest period, or that neither is known yet.
 #[derive(Clone, Copy, Debug, PartialEq, Eq)]
 pub enum Verdict {
     Optimal,

@@ -1,20 +1,15 @@
-// Numbers, constraints and walks, written at the end of a text.
+// Lines of one number, constraints and walks, written at the end of a text.
 ghost use Rattle.std.specs.Prelude.{◌≡◌, ◌<◌, ◌^◌, ◌++◌, length, codes, decimal, OnOk};
 ghost use Rattle.std.specs.Fmt.{signed_decimal};
-ghost use Rattle.answer_text.specs.Fields.{end, pair_text, token_text, walk_text};
+ghost use Rattle.text_writing.specs.Texts.{end};
+ghost use Rattle.answer_text.specs.Fields.{token_text, walk_text};
 
+use crate::words::TokenKind;
 use choice_tree::{Constraint, Proof};
-use itoa::Buffer;
 use std::alloc::AllocError;
+use text_writing::{Worded, push_number, push_signed, push_word_number, push_word_pair};
 
-pub(crate) fn push_number(text: &mut Vec<u8>, number: u64) -> Result<(), AllocError>
-    ensures { OnOk result (text.new.items ≡ text.old.items ++ decimal number) }
-{
-    let mut buffer = Buffer::new();
-    text.extend_from_slice(buffer.format(number).as_bytes())?;
-    Ok(())
-}
-
+/// Writes a number and the end of its line.
 pub(crate) fn push_number_line(text: &mut Vec<u8>, number: u64) -> Result<(), AllocError>
     ensures { OnOk result (text.new.items ≡ text.old.items ++ (decimal number ++ end)) }
 {
@@ -23,54 +18,30 @@ pub(crate) fn push_number_line(text: &mut Vec<u8>, number: u64) -> Result<(), Al
     Ok(())
 }
 
+/// Writes a number that may be negative and the end of its line.
 pub(crate) fn push_signed_line(text: &mut Vec<u8>, number: i64) -> Result<(), AllocError>
     ensures { OnOk result (text.new.items ≡ text.old.items ++ (signed_decimal number ++ end)) }
 {
-    let mut buffer = Buffer::new();
-    text.extend_from_slice(buffer.format(number).as_bytes())?;
+    push_signed(text, number)?;
     text.push(b'\n')?;
     Ok(())
 }
 
-pub(crate) fn push_pair(text: &mut Vec<u8>, c: u32, k: u32) -> Result<(), AllocError>
-    ensures { OnOk result (text.new.items ≡ text.old.items ++ pair_text c k) }
-{
-    push_number(text, c as u64)?;
-    text.push(b' ')?;
-    push_number(text, k as u64)?;
-    Ok(())
-}
-
-fn push_word_pair(text: &mut Vec<u8>, word: &[u8], c: u32, k: u32) -> Result<(), AllocError>
-    ensures { OnOk result (text.new.items ≡ text.old.items ++ (word.now ++ pair_text c k)) }
-{
-    text.extend_from_slice(word)?;
-    push_pair(text, c, k)?;
-    Ok(())
-}
-
-fn push_word_number(text: &mut Vec<u8>, word: &[u8], number: u32) -> Result<(), AllocError>
-    ensures { OnOk result (text.new.items ≡ text.old.items ++ (word.now ++ decimal number)) }
-{
-    text.extend_from_slice(word)?;
-    push_number(text, number as u64)?;
-    Ok(())
-}
-
+/// Writes a constraint, with the blank before it.
 fn push_token(text: &mut Vec<u8>, token: Constraint) -> Result<(), AllocError>
     ensures { OnOk result (text.new.items ≡ text.old.items ++ token_text token) }
 {
     match token {
-        Constraint::Min { c, k } => push_word_pair(text, b" m ", c, k)?,
-        Constraint::Max { c, k } => push_word_pair(text, b" x ", c, k)?,
-        Constraint::Entry { c } => push_word_number(text, b" e ", c)?,
-        Constraint::Visit { c, k } => push_word_pair(text, b" v ", c, k)?,
-        Constraint::Repeat { c, k } => push_word_pair(text, b" r ", c, k)?,
-        Constraint::Decided { i } => push_word_number(text, b" d ", i)?,
+        Constraint::Min { c, k } => push_word_pair(text, TokenKind::Min.word(), c, k),
+        Constraint::Max { c, k } => push_word_pair(text, TokenKind::Max.word(), c, k),
+        Constraint::Entry { c } => push_word_number(text, TokenKind::Entry.word(), c as u64),
+        Constraint::Visit { c, k } => push_word_pair(text, TokenKind::Visit.word(), c, k),
+        Constraint::Repeat { c, k } => push_word_pair(text, TokenKind::Repeat.word(), c, k),
+        Constraint::Decided { i } => push_word_number(text, TokenKind::Decided.word(), i as u64),
     }
-    Ok(())
 }
 
+/// Writes how many constraints a walk has, and each of them.
 pub(crate) fn push_walk(text: &mut Vec<u8>, walk: &Proof) -> Result<(), AllocError>
     ensures { OnOk result (text.new.items ≡ text.old.items ++ walk_text walk.now) }
 {
@@ -82,6 +53,7 @@ pub(crate) fn push_walk(text: &mut Vec<u8>, walk: &Proof) -> Result<(), AllocErr
     Ok(())
 }
 
+/// Writes a walk and the end of its line.
 pub(crate) fn push_walk_line(text: &mut Vec<u8>, walk: &Proof) -> Result<(), AllocError>
     ensures { OnOk result (text.new.items ≡ text.old.items ++ (walk_text walk.now ++ end)) }
 {

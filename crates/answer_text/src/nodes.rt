@@ -2,13 +2,15 @@
 ghost use Rattle.std.specs.Prelude.{◌≡◌, ◌<◌, ◌++◌, length, codes, decimal, OnOk, All, flat_map};
 ghost use Rattle.std.specs.Fmt.{signed_decimal};
 ghost use Rattle.choice_tree.specs.Nodes.{node_at};
-ghost use Rattle.answer_text.specs.Fields.{end, pair_text, walk_text};
+ghost use Rattle.text_writing.specs.Texts.{end, pair_text};
+ghost use Rattle.answer_text.specs.Fields.{walk_text};
 ghost use Rattle.answer_text.specs.Nodes.{question_text, high_text, closed_text, stuck_text, left_text, node_text};
 
-use crate::fields::{push_number_line, push_pair, push_signed_line, push_walk, push_walk_line};
+use crate::fields::{push_number_line, push_signed_line, push_walk, push_walk_line};
 use choice_tree::{Node, Proof, Question, Tree};
 use hoist_base::MoveId;
 use std::alloc::AllocError;
+use text_writing::push_pair;
 
 fn push_count(
     text: &mut Vec<u8>,
@@ -17,7 +19,8 @@ fn push_count(
     k: u32,
     children: usize,
 ) -> Result<(), AllocError>
-    ensures { OnOk result (text.new.items ≡ text.old.items ++ (word.now ++ (pair_text c k ++ (codes " " ++ (decimal children ++ end))))) }
+    ensures { OnOk result (text.new.items ≡ text.old.items
+        ++ (word.now ++ (pair_text c k ++ (codes " " ++ (decimal children ++ end))))) }
 {
     text.extend_from_slice(word)?;
     push_pair(text, c, k)?;
@@ -34,7 +37,9 @@ fn push_order(
     second: (u32, u32),
     q: i64,
 ) -> Result<(), AllocError>
-    ensures { OnOk result (text.new.items ≡ text.old.items ++ (word.now ++ (pair_text first.0 first.1 ++ (codes " " ++ (pair_text second.0 second.1 ++ (codes " " ++ (signed_decimal q ++ end))))))) }
+    ensures { OnOk result (text.new.items ≡ text.old.items
+        ++ (word.now ++ (pair_text first.0 first.1 ++ (codes " "
+        ++ (pair_text second.0 second.1 ++ (codes " " ++ (signed_decimal q ++ end))))))) }
 {
     text.extend_from_slice(word)?;
     push_pair(text, first.0, first.1)?;
@@ -158,7 +163,8 @@ pub(crate) fn push_nodes(
     order: &[u32],
 ) -> Result<(), AllocError>
     requires { All (λ i. i < length tree.now) order.now }
-    ensures { OnOk result (text.new.items ≡ text.old.items ++ flat_map (λ i. node_text single (node_at tree.now i)) order.now) }
+    ensures { OnOk result (text.new.items ≡ text.old.items
+        ++ flat_map (λ i. node_text single (node_at tree.now i)) order.now) }
 {
     for i in order {
         push_node(text, single, tree.node(*i))?;

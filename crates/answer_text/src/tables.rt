@@ -3,12 +3,14 @@ ghost use Rattle.std.specs.Prelude.{◌≡◌, ℕ, ◌+◌, ◌<◌, ◌≤◌,
 ghost use Rattle.std.specs.List.{range_with_len, position_or_len};
 ghost use Rattle.hoist_base.specs.LineData.{last_stage, IsStageOf};
 ghost use Rattle.timetable.specs.TimetableData.{timetable_of, IsTimetableOf};
-ghost use Rattle.answer_text.specs.Fields.{end, pair_text};
-ghost use Rattle.answer_text.specs.Tables.{carrier_line, choice_number, choice_line, move_line, path_line, each_below, table_text};
+ghost use Rattle.text_writing.specs.Texts.{end, pair_text};
+ghost use Rattle.answer_text.specs.Tables.{carrier_line, choice_number, choice_line, move_line, path_line, each_below};
+ghost use Rattle.answer_text.specs.Tables.{table_text};
 
-use crate::fields::{push_number, push_number_line, push_pair};
+use crate::fields::push_number_line;
 use hoist_base::{Line, MoveId, VisitId};
 use std::alloc::AllocError;
+use text_writing::{push_number, push_pair};
 use timetable::Timetable;
 
 fn push_carrier(text: &mut Vec<u8>, t: &Timetable, c: u32) -> Result<(), AllocError>
@@ -81,7 +83,8 @@ fn push_choice(
 fn push_choices_of(text: &mut Vec<u8>, line: &Line, t: &Timetable, c: u32) -> Result<(), AllocError>
     requires carrier { c < length t.now.put }
     requires stages { length line.now.stages ≡ t.now.steps + 1 }
-    ensures { OnOk result (text.new.items ≡ text.old.items ++ each_below (length line.now.stages) (choice_line line.now (timetable_of t.now) c)) }
+    ensures { OnOk result (text.new.items ≡ text.old.items
+        ++ each_below (length line.now.stages) (choice_line line.now (timetable_of t.now) c)) }
 {
     for k in 0..line.inner() + 2 {
         push_choice(text, line, t, c, k)?;
@@ -98,7 +101,9 @@ fn push_choices(
 ) -> Result<(), AllocError>
     requires carriers { carriers ≤ length t.now.put }
     requires stages { length line.now.stages ≡ t.now.steps + 1 }
-    ensures { OnOk result (text.new.items ≡ text.old.items ++ each_below carriers (λ c. each_below (length line.now.stages) (choice_line line.now (timetable_of t.now) c))) }
+    ensures { OnOk result (text.new.items ≡ text.old.items
+        ++ each_below carriers (λ c. each_below (length line.now.stages)
+        (choice_line line.now (timetable_of t.now) c))) }
 {
     for c in 0..carriers {
         push_choices_of(text, line, t, c)?;
@@ -147,7 +152,8 @@ fn push_moves(
 ) -> Result<(), AllocError>
     requires carriers { carriers ≤ length t.now.put }
     requires steps { steps ≤ t.now.steps }
-    ensures { OnOk result (text.new.items ≡ text.old.items ++ each_below carriers (λ c. each_below steps (move_line (timetable_of t.now) c))) }
+    ensures { OnOk result (text.new.items ≡ text.old.items
+        ++ each_below carriers (λ c. each_below steps (move_line (timetable_of t.now) c))) }
 {
     for c in 0..carriers {
         push_moves_of(text, t, c, steps)?;
@@ -166,7 +172,8 @@ fn push_position(text: &mut Vec<u8>, at: u32) -> Result<(), AllocError>
 #[tactic(auto, using(crate::proofs::RowLemmas::one_more))]
 fn push_positions(text: &mut Vec<u8>, t: &Timetable, h: u32) -> Result<(), AllocError>
     requires { (h + 1) * t.now.period ≤ length t.now.path }
-    ensures { OnOk result (text.new.items ≡ text.old.items ++ flat_map (λ tick. codes " " ++ decimal ((timetable_of t.now).path h tick)) (range_with_len 0 t.now.period)) }
+    ensures { OnOk result (text.new.items ≡ text.old.items
+        ++ flat_map (λ tick. codes " " ++ decimal ((timetable_of t.now).path h tick)) (range_with_len 0 t.now.period)) }
 {
     for tick in 0..t.period() {
         push_position(text, t.path(h, tick))?;

@@ -1,14 +1,11 @@
 -- The words for a fault of a timetable.
 use Rattle.std.specs.Prelude.{ℕ, ℤ, List, ◌++◌, codes, decimal}
 use Rattle.std.specs.Fmt.{signed_decimal}
+use Rattle.text_writing.specs.Texts.{pair_text}
 use Rattle.timetable.specs.declared.fault.Fault.{Fault}
 use Rattle.timetable.specs.declared.fault.Fault.TheVariants.{Track, Gap, Speed, Motion, Carry, Dwell, Numbering, Hold}
 
--- the two numbers of a move or of a visit
-abbrev pub pair_text : ℕ → ℕ → List ℕ
-pair_text c k = decimal c ++ (codes " " ++ decimal k)
-
--- two of them, the second so many periods later
+-- two moves or two visits, the second so many periods later
 abbrev pub two_text : ℕ → ℕ → ℕ → ℕ → ℤ → List ℕ
 two_text c k d j shift = pair_text c k ++ (codes " " ++ (pair_text d j ++ (codes " shift " ++ signed_decimal shift)))
 

@@ -1,13 +1,14 @@
 -- The words for what the checker answers.
 use Rattle.std.specs.Prelude.{ℕ, List, ◌++◌, codes, decimal, Bool, true, false, Option, Some, None}
 use Rattle.std.specs.Fmt.{signed_decimal}
-use Rattle.answer_text.specs.Answers.{verdict_text}
-use Rattle.cert_checker.specs.declared.reason.Sums.{Sums}
+use Rattle.text_writing.specs.Texts.{pair_text}
+use Rattle.answer_text.specs.Words.{verdict_text}
+use Rattle.cycle_walk.specs.declared.sums.Sums.{Sums}
 use Rattle.cert_checker.specs.declared.reason.Reason.{Reason}
 use Rattle.cert_checker.specs.declared.reason.Reason.TheVariants as reasons
 use Rattle.cert_checker.specs.declared.checked.Checked.{Checked}
 use Rattle.cert_checker.specs.declared.checked.Checked.TheVariants.{Accepted, Rejected}
-use Rattle.check_text.specs.Faults.{pair_text, fault_of}
+use Rattle.check_text.specs.Faults.{fault_of}
 
 -- a stuck move; where every stage has one tank, the number of its carrier is left out
 abbrev pub stuck_text : Bool → ℕ → ℕ → List ℕ

@@ -1,10 +1,10 @@
 // Faults of timetables, in words.
 ghost use Rattle.std.specs.Prelude.{◌≡◌, ◌++◌, codes, decimal, OnOk, IfOk};
 ghost use Rattle.std.specs.Fmt.{signed_decimal};
-ghost use Rattle.check_text.specs.Faults.{pair_text, two_text, fault_of};
+ghost use Rattle.check_text.specs.Faults.{two_text, at_text, fault_of};
 
-use crate::numbers::{push_number, push_pair, push_signed};
 use std::alloc::{AllocError, Global};
+use text_writing::{push_word_number, push_word_pair, push_word_signed};
 use timetable::Fault;
 
 /// Two moves or two visits, the second so many periods later.
@@ -15,20 +15,21 @@ fn push_two(
     second: (u32, u32),
     shift: i64,
 ) -> Result<(), AllocError>
-    ensures { OnOk result (text.new.items ≡ text.old.items ++ (word.now ++ two_text first.0 first.1 second.0 second.1 shift)) }
+    ensures { OnOk result (text.new.items ≡ text.old.items
+        ++ (word.now ++ two_text first.0 first.1 second.0 second.1 shift)) }
 {
-    push_pair(text, word, first.0, first.1)?;
-    push_pair(text, b" ", second.0, second.1)?;
-    push_signed(text, b" shift ", shift)?;
+    push_word_pair(text, word, first.0, first.1)?;
+    push_word_pair(text, b" ", second.0, second.1)?;
+    push_word_signed(text, b" shift ", shift)?;
     Ok(())
 }
 
 /// A hoist at a tick.
 fn push_at(text: &mut Vec<u8>, word: &[u8], hoist: u32, tick: u32) -> Result<(), AllocError>
-    ensures { OnOk result (text.new.items ≡ text.old.items ++ (word.now ++ (decimal hoist ++ (codes " tick " ++ decimal tick)))) }
+    ensures { OnOk result (text.new.items ≡ text.old.items ++ (word.now ++ at_text hoist tick)) }
 {
-    push_number(text, word, hoist as u64)?;
-    push_number(text, b" tick ", tick as u64)?;
+    push_word_number(text, word, hoist as u64)?;
+    push_word_number(text, b" tick ", tick as u64)?;
     Ok(())
 }
 
@@ -40,19 +41,21 @@ fn push_both(
     between: &[u8],
     second: u64,
 ) -> Result<(), AllocError>
-    ensures { OnOk result (text.new.items ≡ text.old.items ++ (word.now ++ (decimal first ++ (between.now ++ decimal second)))) }
+    ensures { OnOk result (text.new.items ≡ text.old.items
+        ++ (word.now ++ (decimal first ++ (between.now ++ decimal second)))) }
 {
-    push_number(text, word, first)?;
-    push_number(text, between, second)?;
+    push_word_number(text, word, first)?;
+    push_word_number(text, between, second)?;
     Ok(())
 }
 
 /// The positions at a tick and at the next.
 fn push_step(text: &mut Vec<u8>, from: u32, to: u32) -> Result<(), AllocError>
-    ensures { OnOk result (text.new.items ≡ text.old.items ++ (codes " from " ++ (decimal from ++ (codes " to " ++ decimal to)))) }
+    ensures { OnOk result (text.new.items ≡ text.old.items
+        ++ (codes " from " ++ (decimal from ++ (codes " to " ++ decimal to)))) }
 {
-    push_number(text, b" from ", from as u64)?;
-    push_number(text, b" to ", to as u64)?;
+    push_word_number(text, b" from ", from as u64)?;
+    push_word_number(text, b" to ", to as u64)?;
     Ok(())
 }
 
@@ -63,7 +66,7 @@ pub(crate) fn push_fault(text: &mut Vec<u8>, fault: Fault) -> Result<(), AllocEr
     match fault {
         Fault::Track { hoist, tick, at } => {
             push_at(text, b"track hoist ", hoist, tick)?;
-            push_number(text, b" at ", at as u64)?;
+            push_word_number(text, b" at ", at as u64)?;
         }
         Fault::Gap {
             hoist,
@@ -84,8 +87,8 @@ pub(crate) fn push_fault(text: &mut Vec<u8>, fault: Fault) -> Result<(), AllocEr
             push_step(text, from, to)?;
         }
         Fault::Motion { m, u, want, seen } => {
-            push_pair(text, b"motion ", m.carrier, m.step)?;
-            push_number(text, b" u ", u as u64)?;
+            push_word_pair(text, b"motion ", m.carrier, m.step)?;
+            push_word_number(text, b" u ", u as u64)?;
             push_both(text, b" want ", want as u64, b" seen ", seen as u64)?;
         }
         Fault::Carry { a, b, shift } => push_two(
@@ -96,11 +99,11 @@ pub(crate) fn push_fault(text: &mut Vec<u8>, fault: Fault) -> Result<(), AllocEr
             shift,
         )?,
         Fault::Dwell { v, ticks } => {
-            push_pair(text, b"dwell ", v.carrier, v.stage)?;
-            push_signed(text, b" ticks ", ticks)?;
+            push_word_pair(text, b"dwell ", v.carrier, v.stage)?;
+            push_word_signed(text, b" ticks ", ticks)?;
         }
         Fault::Numbering { carrier, put, next } => {
-            push_number(text, b"numbering ", carrier as u64)?;
+            push_word_number(text, b"numbering ", carrier as u64)?;
             push_both(text, b" put ", put, b" next ", next)?;
         }
         Fault::Hold { a, b, shift } => push_two(

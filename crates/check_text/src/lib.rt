@@ -2,7 +2,6 @@
 #![tactic(auto)]
 
 mod faults;
-mod numbers;
 mod reasons;
 
 pub use faults::fault_text;

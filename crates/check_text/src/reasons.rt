@@ -1,16 +1,15 @@
 // What the checker answers, in words.
 ghost use Rattle.std.specs.Prelude.{◌≡◌, ◌++◌, codes, decimal, OnOk, IfOk};
 ghost use Rattle.std.specs.Fmt.{signed_decimal};
-ghost use Rattle.answer_text.specs.Answers.{verdict_text};
-ghost use Rattle.check_text.specs.Faults.{fault_of, pair_text};
+ghost use Rattle.answer_text.specs.Words.{verdict_text};
+ghost use Rattle.check_text.specs.Faults.{fault_of};
 ghost use Rattle.check_text.specs.Reasons.{stuck_text, sums_text, at_node, reason_of, checked_of};
 
 use crate::faults::push_fault;
-use crate::numbers::{push_number, push_pair, push_signed};
-use answer_text::Verdict;
 use cert_checker::{Checked, Claimed, Reason, Sums};
 use hoist_base::MoveId;
 use std::alloc::{AllocError, Global};
+use text_writing::{Worded, push_word_number, push_word_pair, push_word_signed};
 
 fn push_sums(text: &mut Vec<u8>, sums: Option<Sums>) -> Result<(), AllocError>
     ensures { OnOk result (text.new.items ≡ text.old.items ++ sums_text sums) }
@@ -18,8 +17,8 @@ fn push_sums(text: &mut Vec<u8>, sums: Option<Sums>) -> Result<(), AllocError>
     match sums {
         None => text.extend_from_slice(b" none")?,
         Some(sums) => {
-            push_signed(text, b" ", sums.w)?;
-            push_signed(text, b" ", sums.q)?;
+            push_word_signed(text, b" ", sums.w)?;
+            push_word_signed(text, b" ", sums.q)?;
         }
     }
     Ok(())
@@ -29,9 +28,9 @@ fn push_stuck(text: &mut Vec<u8>, single: bool, m: MoveId) -> Result<(), AllocEr
     ensures { OnOk result (text.new.items ≡ text.old.items ++ (codes " stuck " ++ stuck_text single m.carrier m.step)) }
 {
     if single {
-        push_number(text, b" stuck ", m.step as u64)?;
+        push_word_number(text, b" stuck ", m.step as u64)?;
     } else {
-        push_pair(text, b" stuck ", m.carrier, m.step)?;
+        push_word_pair(text, b" stuck ", m.carrier, m.step)?;
     }
     Ok(())
 }
@@ -43,9 +42,10 @@ fn push_period(
     low: Option<Sums>,
     high: Option<Sums>,
 ) -> Result<(), AllocError>
-    ensures { OnOk result (text.new.items ≡ text.old.items ++ (codes " period " ++ (decimal period ++ (codes " sums" ++ (sums_text low ++ sums_text high))))) }
+    ensures { OnOk result (text.new.items ≡ text.old.items
+        ++ (codes " period " ++ (decimal period ++ (codes " sums" ++ (sums_text low ++ sums_text high))))) }
 {
-    push_number(text, b" period ", period as u64)?;
+    push_word_number(text, b" period ", period as u64)?;
     text.extend_from_slice(b" sums")?;
     push_sums(text, low)?;
     push_sums(text, high)?;
@@ -56,8 +56,8 @@ fn push_period(
 fn push_at_node(text: &mut Vec<u8>, node: u32, word: &[u8], place: u32) -> Result<(), AllocError>
     ensures { OnOk result (text.new.items ≡ text.old.items ++ at_node node (word.now ++ decimal place)) }
 {
-    push_number(text, b"node ", node as u64)?;
-    push_number(text, word, place as u64)?;
+    push_word_number(text, b"node ", node as u64)?;
+    push_word_number(text, word, place as u64)?;
     Ok(())
 }
 
@@ -68,17 +68,17 @@ fn push_reason(text: &mut Vec<u8>, single: bool, reason: Reason) -> Result<(), A
     match reason {
         Reason::TimetableMissing => text.extend_from_slice(b"timetable missing")?,
         Reason::TimetableExtra => text.extend_from_slice(b"timetable extra")?,
-        Reason::Bound { seen, want } => push_pair(text, b"bound ", seen, want)?,
-        Reason::Splits { seen, count } => push_pair(text, b"splits ", seen, count)?,
-        Reason::LeftNode { node } => push_number(text, b"left node ", node as u64)?,
+        Reason::Bound { seen, want } => push_word_pair(text, b"bound ", seen, want)?,
+        Reason::Splits { seen, count } => push_word_pair(text, b"splits ", seen, count)?,
+        Reason::LeftNode { node } => push_word_number(text, b"left node ", node as u64)?,
         Reason::NoLeft => text.extend_from_slice(b"no left")?,
         Reason::Fault(fault) => push_fault(text, fault)?,
         Reason::Question { node } => {
-            push_number(text, b"node ", node as u64)?;
+            push_word_number(text, b"node ", node as u64)?;
             text.extend_from_slice(b" question")?;
         }
         Reason::Stuck { node, m } => {
-            push_number(text, b"node ", node as u64)?;
+            push_word_number(text, b"node ", node as u64)?;
             push_stuck(text, single, m)?;
         }
         Reason::Token { node, place } => push_at_node(text, node, b" name ", place)?,
@@ -89,29 +89,20 @@ fn push_reason(text: &mut Vec<u8>, single: bool, reason: Reason) -> Result<(), A
             low,
             high,
         } => {
-            push_number(text, b"node ", node as u64)?;
+            push_word_number(text, b"node ", node as u64)?;
             push_period(text, period, low, high)?;
         }
     }
     Ok(())
 }
 
-fn verdict_word(verdict: Verdict) -> &'static [u8]
-    ensures { result.now ≡ verdict_text verdict }
-{
-    match verdict {
-        Verdict::Optimal => b"optimal",
-        Verdict::Nothing => b"none",
-        Verdict::Unfinished => b"open",
-    }
-}
-
 fn accepted(alloc: Global, claimed: Claimed) -> Result<Vec<u8>, AllocError>
-    ensures { IfOk result (λ text. text.items ≡ codes "accepted " ++ (verdict_text claimed.verdict ++ (codes " " ++ (decimal claimed.bound ++ codes "\n")))) }
+    ensures { IfOk result (λ text. text.items ≡ codes "accepted "
+        ++ (verdict_text claimed.verdict ++ (codes " " ++ (decimal claimed.bound ++ codes "\n")))) }
 {
     let mut text = Vec::from_slice(alloc, b"accepted ")?;
-    text.extend_from_slice(verdict_word(claimed.verdict))?;
-    push_number(&mut text, b" ", claimed.bound as u64)?;
+    text.extend_from_slice(claimed.verdict.word())?;
+    push_word_number(&mut text, b" ", claimed.bound as u64)?;
     text.push(b'\n')?;
     Ok(text)
 }

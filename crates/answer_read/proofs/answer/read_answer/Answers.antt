@@ -8,19 +8,24 @@ use Rattle.answer_read.proofs.answer.read_answer.Goals as goal
 
 pub returns-then-is_empty-clause-found : goal.returns-then-is_empty-clause-found
 returns-then-is_empty-clause-found c =
-    text_found c.args.line.now c.args.bytes.now c.in-Ok.rest.now c.in-Ok.answer c.single-single.ensures.valid c.requires c.in-Ok.ensures (eqb-true (length c.in-Ok.rest.now) 0 (sym c.if-is_empty.ensures))
+    text_found c.args.line.now c.args.bytes.now c.in-Ok.rest.now c.in-Ok.answer c.single-single.ensures.valid c.requires c.in-Ok.ensures
+    (eqb-true (length c.in-Ok.rest.now) 0 (sym c.if-is_empty.ensures))
 
 pub returns-then-is_empty-clause-only : goal.returns-then-is_empty-clause-only
-returns-then-is_empty-clause-only c = λ a h. ap (λ (x : Answer). Ready x) (same_read c.args.line.now c.args.bytes.now c.in-Ok.rest.now c.in-Ok.answer a c.single-single.ensures.valid c.in-Ok.ensures h).0
+returns-then-is_empty-clause-only c =
+    λ a h. ap (λ (x : Answer). Ready x) (same_read c.args.line.now c.args.bytes.now c.in-Ok.rest.now c.in-Ok.answer a c.single-single.ensures.valid
+    c.in-Ok.ensures h).0
 
 pub returns-else-is_empty-clause-found : goal.returns-else-is_empty-clause-found
 returns-else-is_empty-clause-found c =
     let ne = eqb-false (length c.in-Ok.rest.now) 0 (sym c.if-is_empty.ensures) in
-    rw c.saturating_sub.ensures (more_found c.args.line.now c.args.bytes.now c.in-Ok.rest.now c.in-Ok.answer c.single-single.ensures.valid c.requires c.in-Ok.ensures (omega (arith, ne)))
+    rw c.saturating_sub.ensures (more_found c.args.line.now c.args.bytes.now c.in-Ok.rest.now c.in-Ok.answer c.single-single.ensures.valid c.requires
+    c.in-Ok.ensures (omega (arith, ne)))
 
 pub returns-else-is_empty-clause-only : goal.returns-else-is_empty-clause-only
 returns-else-is_empty-clause-only c = λ a h.
-    absurd (eqb-false (length c.in-Ok.rest.now) 0 (sym c.if-is_empty.ensures) (same_read c.args.line.now c.args.bytes.now c.in-Ok.rest.now c.in-Ok.answer a c.single-single.ensures.valid c.in-Ok.ensures h).1)
+    absurd (eqb-false (length c.in-Ok.rest.now) 0 (sym c.if-is_empty.ensures)
+    (same_read c.args.line.now c.args.bytes.now c.in-Ok.rest.now c.in-Ok.answer a c.single-single.ensures.valid c.in-Ok.ensures h).1)
 
 pub returns-in-Err-Broken-clause-found : goal.returns-in-Err-Broken-clause-found
 returns-in-Err-Broken-clause-found c =

@@ -1,5 +1,5 @@
 use Rattle.std.proofs.Common.{codes, arith}
-use Rattle.answer_read.proofs.Words.{word_shorter}
+use Rattle.field_reading.proofs.Words.{word_shorter}
 use Rattle.answer_read.proofs.answer.tree_part.Goals as goal
 
 pub tree-requires : goal.tree-requires

@@ -1,5 +1,5 @@
 use Rattle.std.proofs.Common.{◌≡◌, ◌-◌}
-use Rattle.answer_read.specs.Reading.{items_at, with_front}
+use Rattle.field_reading.specs.Reading.{items_at, with_front}
 use Rattle.answer_read.specs.Lines.{token_at}
 use Rattle.answer_read.proofs.lines.tokens.Given as goal
 

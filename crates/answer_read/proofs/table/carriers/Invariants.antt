@@ -1,7 +1,7 @@
 use Rattle.std.proofs.Common.{◌≡◌, ◌-◌}
-use Rattle.answer_read.specs.Reading.{items_at}
+use Rattle.field_reading.specs.Reading.{items_at}
 use Rattle.answer_read.specs.Tables.{carrier_at, carriers_at}
-use Rattle.answer_read.proofs.Loops.{fronts}
+use Rattle.field_reading.proofs.Loops.{fronts}
 use Rattle.answer_read.proofs.table.carriers.Given as goal
 
 abbrev pub invariant-loop-c : goal.invariant-loop-c

@@ -1,7 +1,7 @@
 use Rattle.std.proofs.Common.{◌≡◌, ◌-◌}
-use Rattle.answer_read.specs.Reading.{items_at}
+use Rattle.field_reading.specs.Reading.{items_at}
 use Rattle.answer_read.specs.Tables.{path_at, paths_at}
-use Rattle.answer_read.proofs.Loops.{with_joined}
+use Rattle.field_reading.proofs.Loops.{with_joined}
 use Rattle.answer_read.proofs.table.paths.Given as goal
 
 abbrev pub invariant-loop-h : goal.invariant-loop-h

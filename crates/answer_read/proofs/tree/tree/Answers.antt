@@ -9,26 +9,33 @@ loop-i-init c = rw (c.in_ok-push.ensures.items, c.new-waiting.ensures.items, c.i
 pub returns-in_err-row : goal.returns-in_err-row
 returns-in_err-row c =
     let p = err_from_is_err_and c.from_residual-in_err-row.result c.from_residual-in_err-row.ensures.1 in
-    rw (p.1, p.2) (growing_breaks c.args.single c.args.bytes.now c.loop-i.waiting.items c.pop.new.self.items c.in-Some.i c.loop-i.tree c.loop-i.rest.now c.in_err-row.field-0.0 c.loop-i.invariant c.in-Some.ensures.items c.in_err-row.ensures)
+    rw (p.1, p.2) (growing_breaks c.args.single c.args.bytes.now c.loop-i.waiting.items c.pop.new.self.items c.in-Some.i c.loop-i.tree c.loop-i.rest.now
+    c.in_err-row.field-0.0 c.loop-i.invariant c.in-Some.ensures.items c.in_err-row.ensures)
 
 pub place-requires-clause-there : goal.place-requires-clause-there
-place-requires-clause-there c = (top_left c.args.single c.args.bytes.now c.loop-i.waiting.items c.pop.new.self.items c.in-Some.i c.loop-i.tree c.loop-i.rest.now c.loop-i.invariant c.in-Some.ensures.items).0
+place-requires-clause-there c =
+    (top_left c.args.single c.args.bytes.now c.loop-i.waiting.items c.pop.new.self.items c.in-Some.i c.loop-i.tree c.loop-i.rest.now c.loop-i.invariant
+    c.in-Some.ensures.items).0
 
 pub place-requires-clause-left : goal.place-requires-clause-left
-place-requires-clause-left c = (top_left c.args.single c.args.bytes.now c.loop-i.waiting.items c.pop.new.self.items c.in-Some.i c.loop-i.tree c.loop-i.rest.now c.loop-i.invariant c.in-Some.ensures.items).1
+place-requires-clause-left c =
+    (top_left c.args.single c.args.bytes.now c.loop-i.waiting.items c.pop.new.self.items c.in-Some.i c.loop-i.tree c.loop-i.rest.now c.loop-i.invariant
+    c.in-Some.ensures.items).1
 
 pub place-requires-clause-few : goal.place-requires-clause-few
 place-requires-clause-few c = (row_takes c.args.single c.loop-i.rest.now c.in_ok-row.after.now c.in_ok-row.row c.in_ok-row.ensures).1
 
 pub place-requires-clause-room : goal.place-requires-clause-room
-place-requires-clause-room c = omega (arith, c.loop-i.invariant.few, (row_takes c.args.single c.loop-i.rest.now c.in_ok-row.after.now c.in_ok-row.row c.in_ok-row.ensures).0)
+place-requires-clause-room c =
+    omega (arith, c.loop-i.invariant.few, (row_takes c.args.single c.loop-i.rest.now c.in_ok-row.after.now c.in_ok-row.row c.in_ok-row.ensures).0)
 
 pub loop-i-smaller : goal.loop-i-smaller
 loop-i-smaller c = omega (arith, (row_takes c.args.single c.loop-i.rest.now c.in_ok-row.after.now c.in_ok-row.row c.in_ok-row.ensures).0)
 
 pub loop-i-preserved : goal.loop-i-preserved
 loop-i-preserved c =
-    goes_on_growing c.args.single c.args.bytes.now c.loop-i.waiting.items c.pop.new.self.items c.in-Some.i c.loop-i.tree c.loop-i.rest.now c.in_ok-row.row c.in_ok-row.after.now (reverse c.place.new.waiting.items) c.place.new.tree
+    goes_on_growing c.args.single c.args.bytes.now c.loop-i.waiting.items c.pop.new.self.items c.in-Some.i c.loop-i.tree c.loop-i.rest.now c.in_ok-row.row
+    c.in_ok-row.after.now (reverse c.place.new.waiting.items) c.place.new.tree
     c.loop-i.invariant c.in-Some.ensures.items c.in_ok-row.ensures c.in_ok-place.ensures.tree c.in_ok-place.ensures.waiting
 
 pub returns : goal.returns
