@@ -1,13 +1,10 @@
 pub mod Documents
-pub mod Firsts
 pub mod Items
 pub mod Meets
 pub mod Numbering
-pub mod Numbers
 pub mod Valid
 pub mod WrittenLemmas
 pub mod WrittenLines
 pub mod WrittenNodes
-pub mod NoFault
 pub mod WrittenTables
 pub mod WrittenRead

@@ -18,8 +18,9 @@ use Rattle.line_text.specs.declared.why.Why.{Why}
 use Rattle.line_text.specs.declared.why.Why.TheVariants.{Missing, WrongKind, Range}
 use Rattle.line_text.specs.Fields.{name_of, must_have, may_have}
 use Rattle.line_text.specs.Values.{list_of, elements, natural, member_keys, value_at, number_at, number_if, text_if, items_at}
-use Rattle.line_text.specs.Tables.{first_some, given, key_at, missing_why, first_text, unknown_why, kind_why, range_why, table_why, is_kind, is_table, is_text, is_in_range, extent, is_listed}
-use Rattle.line_text.proofs.Firsts.{or_left, or_right, both_none, given_none, first_some_none, none_from_each}
+use Rattle.hoist_base.specs.Firsts.{first_some, given}
+use Rattle.line_text.specs.Tables.{key_at, missing_why, first_text, unknown_why, kind_why, range_why, table_why, is_kind, is_table, is_text, is_in_range, extent, is_listed}
+use Rattle.hoist_base.proofs.Firsts.{or_left, or_right, both_none, given_none, first_some_none, none_from_each}
 
 -- a value of the kind, in its range
 abbrev pub Allowed : Kind → Data → Type 0

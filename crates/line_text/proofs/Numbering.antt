@@ -14,7 +14,7 @@ use Rattle.toml.specs.Data.{as_str}
 use Rattle.toml.specs.View.{view}
 use Rattle.toml.specs.declared.value.Value.{Value}
 use Rattle.hoist_base.specs.declared.tank.Tank.{Tank}
-use Rattle.line_text.specs.Tables.{given}
+use Rattle.hoist_base.specs.Firsts.{given}
 use Rattle.line_text.specs.File.{tank_of, number_of}
 use Rattle.line_text.specs.Names.{IsNumbering}
 

@@ -1,21 +1,21 @@
 -- A file with nothing wrong describes a valid line.
-use Rattle.std.proofs.Common.{◌≡◌, ◌≢◌, ◌∙◌, ◌+◌, ◌-◌, ◌<◌, ◌≤◌, ◌==◌, ◌&&◌, nat_le, nat_lt, ℕ, Bool, true, false, not, List, length, get_or, map, refl, ap, sym, Option, Some, None, IfSome, if◌then◌else◌, arith, inl, inr}
-use Rattle.std.specs.List.{list_all, list_any, filter_map, Contains}
-use Rattle.std.specs.Option.{option_or, option_map_or}
-use Rattle.std.specs.Str.{bytes_eq}
-use Rattle.std.proofs.lemmas.Bool.{cases_Bool, false≢true, and_parts, leb-true, leb-false, ltb-false, eq-eqb}
+use Rattle.std.proofs.Common.{◌≡◌, ◌≢◌, ◌∙◌, ◌+◌, ◌-◌, ◌<◌, ◌≤◌, ◌==◌, ℕ, Bool, true, false, List, length, get_or, map, refl, ap, sym, Some, None, IfSome, if◌then◌else◌, arith, inl, inr}
+use Rattle.std.specs.List.{filter_map}
+use Rattle.std.specs.Option.{option_or}
+use Rattle.std.proofs.lemmas.Bool.{eq-eqb}
 use Rattle.std.proofs.lemmas.Bool.Decides.{nat_tests}
-use Rattle.std.proofs.lemmas.List.{get_or-map, get_or_past, length-map}
-use Rattle.std.proofs.lemmas.List.Sums.{AllPass-from_list_all}
-use Rattle.std.proofs.lemmas.List.Folds.{list_any_at}
-use Rattle.std.proofs.lemmas.Slice.Eq.{bytes_eq-Decides}
+use Rattle.std.proofs.lemmas.List.{get_or-map, length-map}
 use Rattle.toml.specs.Data.{Data, as_str}
 use Rattle.toml.specs.View.{view}
 use Rattle.toml.specs.declared.value.Value.{Value}
 use Rattle.hoist_base.specs.declared.tank.Tank.{Tank}
 use Rattle.hoist_base.specs.declared.stage.Stage.{Stage}
-use Rattle.hoist_base.specs.LineData.{LineData, stage, tank, no_stage, no_tank, position_of, IsStageOf}
-use Rattle.hoist_base.specs.Valid.{IsNameByte, IsName, IsWithinLimits, HasTanks, IsEnd, HasStages, HasTimes, IsLine}
+use Rattle.hoist_base.specs.LineData.{LineData, stage, tank, no_stage, no_tank, position_of}
+use Rattle.hoist_base.specs.Limits.{max_track, max_gap, max_hoists, max_degree, period_limit, max_dwell, max_lift, max_lower, min_tanks, max_tanks, min_stages, max_stages, max_tanks_of_stage}
+use Rattle.hoist_base.specs.Valid.{IsWithinLimits, IsEnd, IsLine}
+use Rattle.hoist_base.specs.Flaws.{first_flaw}
+use Rattle.hoist_base.specs.Ranges.{HasEnds, HasRangesAt, HasRanges}
+use Rattle.hoist_base.proofs.FlawLemmas.{line_from}
 use Rattle.line_text.specs.declared.fields.Field.{Field}
 use Rattle.line_text.specs.declared.fields.Field.TheVariants as fields
 use Rattle.line_text.specs.declared.why.Place.{Place}
@@ -23,9 +23,8 @@ use Rattle.line_text.specs.declared.why.Place.TheVariants as places
 use Rattle.line_text.specs.Fields.{root_rules, tank_rules, stage_rules, first_stage_rules, single_stage_rules, inner_stage_rules, last_stage_rules}
 use Rattle.line_text.specs.Values.{value_at, number_at, number_if, text_if, items_at}
 use Rattle.line_text.specs.Tables.{table_why}
-use Rattle.line_text.specs.Rules as between
 use Rattle.line_text.specs.File.{no_value, tank_tables, stage_tables, tank_of, number_of, stage_names, stage_of, line_of, root_why, tank_why, stage_why, tanks_why, stages_why, tables_why}
-use Rattle.line_text.proofs.Firsts.{or_left, or_right, given_none, none_at, fails_at, below_or_not}
+use Rattle.hoist_base.proofs.Firsts.{or_left, or_right, none_at, below_or_not}
 use Rattle.line_text.proofs.Meets.{table_meets, number_meets, number_if_meets, text_meets, tables_meet, texts_meet, absent}
 
 -- ---- the limits of the root
@@ -33,109 +32,33 @@ use Rattle.line_text.proofs.Meets.{table_meets, number_meets, number_if_meets, t
 pub limits : (root : Data) → root_why root ≡ None → IsWithinLimits (line_of root)
 limits root h =
     let m = (table_meets places.Root root_rules root h).0 in
-    let tanks = tables_meet root fields.Tank 2 64 m.1.1.1.1.1.1.1.1.0 in
-    let stages = tables_meet root fields.Stage 2 32 m.1.1.1.1.1.1.1.1.1.0 in
+    let tanks = tables_meet root fields.Tank min_tanks max_tanks m.1.1.1.1.1.1.1.1.0 in
+    let stages = tables_meet root fields.Stage min_stages max_stages m.1.1.1.1.1.1.1.1.1.0 in
     record {
-      track = number_meets root fields.Track 1 1000 (omega arith) m.1.0;
-      gap = number_meets root fields.Gap 1 100 (omega arith) m.1.1.0;
-      hoists = number_meets root fields.Hoists 1 6 (omega arith) m.1.1.1.0;
-      degree = number_meets root fields.Degree 1 4 (omega arith) m.1.1.1.1.0;
-      max_period = number_meets root fields.MaxPeriod 1 20000 (omega arith) m.1.1.1.1.1.0;
-      load = (number_meets root fields.Load 0 20000 (omega arith) m.1.1.1.1.1.1.0).1;
-      unload = (number_meets root fields.Unload 0 20000 (omega arith) m.1.1.1.1.1.1.1.0).1;
+      track = number_meets root fields.Track 1 max_track (omega arith) m.1.0;
+      gap = number_meets root fields.Gap 1 max_gap (omega arith) m.1.1.0;
+      hoists = number_meets root fields.Hoists 1 max_hoists (omega arith) m.1.1.1.0;
+      degree = number_meets root fields.Degree 1 max_degree (omega arith) m.1.1.1.1.0;
+      max_period = number_meets root fields.MaxPeriod 1 period_limit (omega arith) m.1.1.1.1.1.0;
+      load = (number_meets root fields.Load 0 max_dwell (omega arith) m.1.1.1.1.1.1.0).1;
+      unload = (number_meets root fields.Unload 0 max_dwell (omega arith) m.1.1.1.1.1.1.1.0).1;
       tanks = simp length-map tanks;
       stages = simp length-map stages;
     }
 
 -- ---- tanks
 
-is_name_byte_true : (b : ℕ) → between.is_name_byte b ≡ true → IsNameByte b
-is_name_byte_true b h = grind (arith, nat_tests)
-
-is_name_true : (name : List ℕ) → between.is_name name ≡ true → IsName name
-is_name_true name h =
-    let (counts, bytes) = and_parts (nat_le 1 (length name) && nat_le (length name) 32) (list_all between.is_name_byte name) h in
-    let (low, high) = and_parts (nat_le 1 (length name)) (nat_le (length name) 32) counts in (
-      leb-true 1 (length name) low,
-      leb-true (length name) 32 high,
-      λ k d there. is_name_byte_true (get_or name k d) (AllPass-from_list_all between.is_name_byte name bytes k d there),
-    )
-
 -- a tank of the line is that of its table
 tank_is : (root : Data) (i : ℕ) → i < length (tank_tables root) → tank (line_of root) i ≡ tank_of (get_or (tank_tables root) i no_value)
 tank_is root i h = get_or-map tank_of (tank_tables root) i no_value no_tank h
 
-position_within : (root : Data) (i : ℕ) → number_at root fields.Track ≤ 1000 → tanks_why root ≡ None → i < length (tank_tables root)
+position_within : (root : Data) (i : ℕ) → number_at root fields.Track ≤ max_track → tanks_why root ≡ None → i < length (tank_tables root)
     → number_at (get_or (tank_tables root) i no_value) fields.At ≤ number_at root fields.Track
 position_within root i small h there =
     let track = number_at root fields.Track in
     let t = get_or (tank_tables root) i no_value in
     let m = (table_meets (places.Tank i) (tank_rules track) t (none_at (tank_why track (tank_tables root)) 0 (length (tank_tables root)) i h (omega arith) there)).0 in
     (number_meets t fields.At 0 track (omega arith) m.1.0).1
-
-true_from_not : (b : Bool) → not b ≡ false → b ≡ true
-true_from_not true h = refl
-true_from_not false h = absurd (false≢true (sym h))
-
-differ : (a b : List ℕ) → bytes_eq a b ≡ false → a ≢ b
-differ a b h same = false≢true (sym h ∙ (bytes_eq-Decides a b).1 same)
-
-numbers_differ : (a b : ℕ) → (a == b) ≡ false → a ≢ b
-numbers_differ a b h same = false≢true (sym h ∙ eq-eqb a b same)
-
-has_tanks : (l : LineData) → between.bad_name l ≡ None → between.twice_named l ≡ None → between.same_place l ≡ None
-    → ((i : ℕ) → i < length l.tanks → position_of l i ≤ l.track) → HasTanks l
-has_tanks l names twice places on_track =
-    let count = length l.tanks in
-    record {
-      names = λ i there. is_name_true (tank l i).name (true_from_not _ (given_none _ _ (none_at (between.bad_name_at l) 0 count i names (omega arith) there)));
-      names_differ = λ i j before there.
-          differ (tank l i).name (tank l j).name (given_none _ _ (none_at (between.twice_named_at l i) (i + 1) count j
-          (none_at (between.twice_named_with l) 0 count i twice (omega arith) (omega arith)) (omega arith) there));
-      on_track = on_track;
-      places_differ = λ i j before there.
-          numbers_differ (position_of l i) (position_of l j) (given_none _ _ (none_at (between.same_place_at l i) (i + 1) count j
-          (none_at (between.same_place_with l) 0 count i places (omega arith) (omega arith)) (omega arith) there));
-    }
-
--- ---- stages
-
--- what holds of every item of which a test fails of every one
-none_passes : (p : ℕ → Bool) (xs : List ℕ) (x : ℕ) → list_any p xs ≡ false → Contains xs x → p x ≡ false
-none_passes p xs x h (k, there, is) =
-    elim (cases_Bool (p x)) [
-      | inl passes ↦ absurd (false≢true (sym h ∙ list_any_at p xs k x there (ap p is ∙ passes)))
-      | inr fails ↦ fails
-    ]
-
--- a stage with a tank is there
-with_tank : (l : LineData) (k : ℕ) → 0 < length (stage l k).tanks → IsStageOf l k
-with_tank l k some =
-    elim (below_or_not k (length l.stages)) [
-      | inl there ↦ there
-      | inr past ↦
-          let nothing : length (stage l k).tanks ≡ 0 = ap (λ (s : Stage). length s.tanks) (get_or_past l.stages k no_stage past) in absurd (omega arith)
-    ]
-
-has_stages : (l : LineData) → between.no_tank l ≡ None → between.twice_tank l ≡ None → between.same_tank l ≡ None
-    → ((k : ℕ) → IsStageOf l k → (1 ≤ length (stage l k).tanks) × (length (stage l k).tanks ≤ 4)) → HasStages l
-has_stages l unknown twice same count =
-    let stages = length l.stages in
-    record {
-      count = count;
-      there = λ k i serves.
-          leb-false (length l.tanks) i (none_passes (λ j. nat_le (length l.tanks) j) (stage l k).tanks i
-          (given_none _ _ (none_at (between.no_tank_at l) 0 stages k unknown (omega arith) (with_tank l k (omega (arith, serves.1))))) serves);
-      once = λ k a b before there.
-          let tanks = (stage l k).tanks in
-          let fails = given_none _ _ (none_at (between.twice_tank_at l) 0 stages k twice (omega arith) (with_tank l k (omega arith))) in
-          numbers_differ (get_or tanks a 0) (get_or tanks b 0)
-          (fails_at (between.has_at tanks a) (a + 1) (length tanks) b (fails_at (between.is_repeated tanks) 0 (length tanks) a fails (omega arith) (omega arith)) (omega arith) there);
-      moves_away = λ k i j step here next.
-          numbers_differ i j (none_passes (λ y. i == y) (stage l (k + 1)).tanks j
-          (none_passes (λ x. list_any (λ y. x == y) (stage l (k + 1)).tanks) (stage l k).tanks i
-          (given_none _ _ (none_at (between.same_tank_at l) 0 (stages - 1) k same (omega arith) (omega arith))) here) next);
-    }
 
 -- ---- what the table of a stage gives
 
@@ -149,7 +72,7 @@ one_name : (tanks : List Tank) (t : Data) (s : List ℕ) → text_if t fields.Ta
 one_name tanks t s h = rw h
 
 first_facts : (tanks : List Tank) (place : Place) (t : Data) → table_why place first_stage_rules t ≡ None
-    → IsEnd (stage_of tanks t) × ((stage_of tanks t).lower ≡ 0) × ((1 ≤ (stage_of tanks t).lift) × ((stage_of tanks t).lift ≤ 500))
+    → IsEnd (stage_of tanks t) × ((stage_of tanks t).lower ≡ 0) × ((1 ≤ (stage_of tanks t).lift) × ((stage_of tanks t).lift ≤ max_lift))
 first_facts tanks place t h =
     let (m, unknown) = table_meets place first_stage_rules t h in
     let (s, text) = text_meets t fields.Tank m.0 in (
@@ -159,11 +82,11 @@ first_facts tanks place t h =
         no_greatest = no_number_if t fields.Max (absent place first_stage_rules t fields.Max unknown refl);
       },
       no_number t fields.Lower (absent place first_stage_rules t fields.Lower unknown refl),
-      number_meets t fields.Lift 1 500 (omega arith) m.1.0,
+      number_meets t fields.Lift 1 max_lift (omega arith) m.1.0,
     )
 
 last_facts : (tanks : List Tank) (place : Place) (t : Data) → table_why place last_stage_rules t ≡ None
-    → IsEnd (stage_of tanks t) × ((stage_of tanks t).lift ≡ 0) × ((1 ≤ (stage_of tanks t).lower) × ((stage_of tanks t).lower ≤ 500))
+    → IsEnd (stage_of tanks t) × ((stage_of tanks t).lift ≡ 0) × ((1 ≤ (stage_of tanks t).lower) × ((stage_of tanks t).lower ≤ max_lower))
 last_facts tanks place t h =
     let (m, unknown) = table_meets place last_stage_rules t h in
     let (s, text) = text_meets t fields.Tank m.0 in (
@@ -173,16 +96,16 @@ last_facts tanks place t h =
         no_greatest = no_number_if t fields.Max (absent place last_stage_rules t fields.Max unknown refl);
       },
       no_number t fields.Lift (absent place last_stage_rules t fields.Lift unknown refl),
-      number_meets t fields.Lower 1 500 (omega arith) m.1.0,
+      number_meets t fields.Lower 1 max_lower (omega arith) m.1.0,
     )
 
 -- of an inner stage
 record IsInner (s : Stage) : Type 0 where
-  count : (1 ≤ length s.tanks) × (length s.tanks ≤ 4)
-  least : (1 ≤ s.min) × (s.min ≤ 20000)
-  greatest : IfSome s.max (λ m. (1 ≤ m) × (m ≤ 20000))
-  lift : (1 ≤ s.lift) × (s.lift ≤ 500)
-  lower : (1 ≤ s.lower) × (s.lower ≤ 500)
+  count : (1 ≤ length s.tanks) × (length s.tanks ≤ max_tanks_of_stage)
+  least : (1 ≤ s.min) × (s.min ≤ max_dwell)
+  greatest : IfSome s.max (λ m. (1 ≤ m) × (m ≤ max_dwell))
+  lift : (1 ≤ s.lift) × (s.lift ≤ max_lift)
+  lower : (1 ≤ s.lower) × (s.lower ≤ max_lower)
 
 inner_facts : (tanks : List Tank) (place : Place) (t : Data) (single : Bool) → table_why place (if single then single_stage_rules else inner_stage_rules) t ≡ None
     → IsInner (stage_of tanks t)
@@ -192,23 +115,23 @@ inner_facts tanks place t true h =
     let one = one_name tanks t s text in
     record {
       count = (omega arith, omega arith);
-      least = number_meets t fields.Min 1 20000 (omega arith) m.1.0;
-      greatest = number_if_meets t fields.Max 1 20000 (omega arith) m.1.1.0;
-      lift = number_meets t fields.Lift 1 500 (omega arith) m.1.1.1.0;
-      lower = number_meets t fields.Lower 1 500 (omega arith) m.1.1.1.1.0;
+      least = number_meets t fields.Min 1 max_dwell (omega arith) m.1.0;
+      greatest = number_if_meets t fields.Max 1 max_dwell (omega arith) m.1.1.0;
+      lift = number_meets t fields.Lift 1 max_lift (omega arith) m.1.1.1.0;
+      lower = number_meets t fields.Lower 1 max_lower (omega arith) m.1.1.1.1.0;
     }
 inner_facts tanks place t false h =
     let (m, unknown) = table_meets place inner_stage_rules t h in
-    let counted = texts_meet t fields.Tanks 1 4 m.0 in
+    let counted = texts_meet t fields.Tanks 1 max_tanks_of_stage m.0 in
     let names : stage_names t ≡ filter_map as_str (items_at t fields.Tanks) = rw (absent place inner_stage_rules t fields.Tank unknown refl) in
     let several : length (stage_of tanks t).tanks ≡ length (filter_map as_str (items_at t fields.Tanks))
     = length-map (stage_names t) (number_of tanks) ∙ ap (λ (xs : List (List ℕ)). length xs) names in
     record {
       count = (omega arith, omega arith);
-      least = number_meets t fields.Min 1 20000 (omega arith) m.1.0;
-      greatest = number_if_meets t fields.Max 1 20000 (omega arith) m.1.1.0;
-      lift = number_meets t fields.Lift 1 500 (omega arith) m.1.1.1.0;
-      lower = number_meets t fields.Lower 1 500 (omega arith) m.1.1.1.1.0;
+      least = number_meets t fields.Min 1 max_dwell (omega arith) m.1.0;
+      greatest = number_if_meets t fields.Max 1 max_dwell (omega arith) m.1.1.0;
+      lift = number_meets t fields.Lift 1 max_lift (omega arith) m.1.1.1.0;
+      lower = number_meets t fields.Lower 1 max_lower (omega arith) m.1.1.1.1.0;
     }
 
 -- ---- the stages by number
@@ -232,11 +155,11 @@ rules_inner version count k later inner = rw (unequal k 0 later, unequal (k + 1)
 
 module _ (root : Data) (h : stages_why root ≡ None) where
   first_at : 0 < length (stage_tables root)
-      → IsEnd (stage (line_of root) 0) × ((stage (line_of root) 0).lower ≡ 0) × ((1 ≤ (stage (line_of root) 0).lift) × ((stage (line_of root) 0).lift ≤ 500))
+      → IsEnd (stage (line_of root) 0) × ((stage (line_of root) 0).lower ≡ 0) × ((1 ≤ (stage (line_of root) 0).lift) × ((stage (line_of root) 0).lift ≤ max_lift))
   first_at there = rw (stage_is root 0 there) (first_facts (map tank_of (tank_tables root)) (places.Stage 0) (get_or (stage_tables root) 0 no_value) (why_at root 0 h there))
 
   last_at : (k : ℕ) → k ≢ 0 → k + 1 ≡ length (stage_tables root)
-      → IsEnd (stage (line_of root) k) × ((stage (line_of root) k).lift ≡ 0) × ((1 ≤ (stage (line_of root) k).lower) × ((stage (line_of root) k).lower ≤ 500))
+      → IsEnd (stage (line_of root) k) × ((stage (line_of root) k).lift ≡ 0) × ((1 ≤ (stage (line_of root) k).lower) × ((stage (line_of root) k).lower ≤ max_lower))
   last_at k later last =
       let there : k < length (stage_tables root) = omega arith in
       let t = get_or (stage_tables root) k no_value in
@@ -251,16 +174,11 @@ module _ (root : Data) (h : stages_why root ≡ None) where
       let same = rules_inner version (length (stage_tables root)) k later (omega arith) in
       rw (stage_is root k there) (inner_facts (map tank_of (tank_tables root)) (places.Stage k) t (version == 1) (sym (ap (λ rules. table_why (places.Stage k) rules t) same) ∙ why_at root k h there))
 
-greatest_at : (o : Option ℕ) (least : ℕ) → IfSome o (λ m. (1 ≤ m) × (m ≤ 20000)) → option_map_or (λ m. nat_lt m least) o false ≡ false
-    → IfSome o (λ m. (least ≤ m) × (m ≤ 20000))
-greatest_at None least h g = tt
-greatest_at (Some m) least h g = (ltb-false m least g, h.1)
-
-one_to_four : (s : Stage) → IsEnd s → (1 ≤ length s.tanks) × (length s.tanks ≤ 4)
+one_to_four : (s : Stage) → IsEnd s → (1 ≤ length s.tanks) × (length s.tanks ≤ max_tanks_of_stage)
 one_to_four s h = let one = h.one_tank in (omega arith, omega arith)
 
 tank_counts : (root : Data) → stages_why root ≡ None → 2 ≤ length (stage_tables root) → (k : ℕ) → k < length (stage_tables root)
-    → (1 ≤ length (stage (line_of root) k).tanks) × (length (stage (line_of root) k).tanks ≤ 4)
+    → (1 ≤ length (stage (line_of root) k).tanks) × (length (stage (line_of root) k).tanks ≤ max_tanks_of_stage)
 tank_counts root h two k there =
     elim (below_or_not 0 k) [
       | inl later ↦
@@ -271,33 +189,35 @@ tank_counts root h two k there =
       | inr first ↦ let same : k ≡ 0 = omega arith in rw same (one_to_four (stage (line_of root) 0) (first_at root h (omega arith)).0)
     ]
 
-has_times : (root : Data) → stages_why root ≡ None → 2 ≤ length (stage_tables root) → between.empty_window (line_of root) ≡ None → HasTimes (line_of root)
-has_times root h two windows =
+ranges_at : (root : Data) → stages_why root ≡ None → 2 ≤ length (stage_tables root) → (k : ℕ) → k < length (stage_tables root)
+    → HasRangesAt (line_of root) k
+ranges_at root h two k there =
     let l = line_of root in
     let n = length (stage_tables root) in
     let same : length l.stages ≡ n = length-map (stage_tables root) _ in
-    let first_stage = first_at root h (omega arith) in
-    let last_stage_facts = last_at root h (length l.stages - 1) (omega arith) (omega arith) in
     record {
-      first = first_stage.0;
-      last = last_stage_facts.0;
-      no_lower = first_stage.1;
-      no_lift = last_stage_facts.1;
-      lift = λ k step.
+      count = tank_counts root h two k there;
+      lift = λ step.
           elim (below_or_not 0 k) [
             | inl later ↦ (inner_at root h k (omega arith) (omega arith)).lift
-            | inr at_first ↦ let zero_now : k ≡ 0 = omega arith in rw zero_now first_stage.2
+            | inr at_first ↦ let zero_now : k ≡ 0 = omega arith in rw zero_now (first_at root h (omega arith)).2
           ];
-      lower = λ k step.
+      lower = λ step.
           elim (below_or_not (k + 2) n) [
             | inl inner ↦ (inner_at root h (k + 1) (omega arith) (omega arith)).lower
             | inr at_last ↦ (last_at root h (k + 1) (omega arith) (omega arith)).2
           ];
-      least = λ k step. (inner_at root h (k + 1) (omega arith) (omega arith)).least;
-      greatest = λ k step.
-          greatest_at (stage l (k + 1)).max (stage l (k + 1)).min (inner_at root h (k + 1) (omega arith) (omega arith)).greatest
-          (given_none _ _ (none_at (between.empty_window_at l) 0 (length l.stages) (k + 1) windows (omega arith) (omega arith)));
+      least = λ step. (inner_at root h (k + 1) (omega arith) (omega arith)).least;
+      greatest = λ step. (inner_at root h (k + 1) (omega arith) (omega arith)).greatest;
     }
+
+has_ends : (root : Data) → stages_why root ≡ None → 2 ≤ length (stage_tables root) → HasEnds (line_of root)
+has_ends root h two =
+    let l = line_of root in
+    let same : length l.stages ≡ length (stage_tables root) = length-map (stage_tables root) _ in
+    let at_first = first_at root h (omega arith) in
+    let at_last = last_at root h (length l.stages - 1) (omega arith) (omega arith) in
+    record { first = at_first.0; last = at_last.0; no_lower = at_first.1; no_lift = at_last.1 }
 
 -- ---- the whole
 
@@ -305,54 +225,44 @@ pub root_of : (root : Data) → tables_why root ≡ None → root_why root ≡ N
 root_of root h = or_left (root_why root) (option_or (tanks_why root) (stages_why root)) h
 
 -- there are few tables of tanks and of stages
-pub few_tanks : (root : Data) (vs : List Value) → root_why root ≡ None → map view vs ≡ tank_tables root → length vs ≤ 64
+pub few_tanks : (root : Data) (vs : List Value) → root_why root ≡ None → map view vs ≡ tank_tables root → length vs ≤ max_tanks
 few_tanks root vs h same = let few = (limits root h).tanks.1 in omega (arith, simp length-map at few, simp length-map at (ap (λ (xs : List Data). length xs) same))
 
-pub few_stages : (root : Data) (vs : List Value) → root_why root ≡ None → map view vs ≡ stage_tables root → length vs ≤ 32
+pub few_stages : (root : Data) (vs : List Value) → root_why root ≡ None → map view vs ≡ stage_tables root → length vs ≤ max_stages
 few_stages root vs h same = let few = (limits root h).stages.1 in omega (arith, simp length-map at few, simp length-map at (ap (λ (xs : List Data). length xs) same))
 
-pub few_tables : (root : Data) → tables_why root ≡ None → length (tank_tables root) ≤ 64
+pub few_tables : (root : Data) → tables_why root ≡ None → length (tank_tables root) ≤ max_tanks
 few_tables root h = let few = (limits root (root_of root h)).tanks.1 in simp length-map at few
 
 pub within_limits : (root : Data) (l : LineData) → tables_why root ≡ None → l ≡ line_of root → IsWithinLimits l
 within_limits root l h same = rw same (limits root (root_of root h))
 
-valid_table : (root : Data) → tables_why root ≡ None → between.parts_why (line_of root) ≡ None → IsLine (line_of root)
-valid_table root h g =
+-- every number of the line is in its range
+has_ranges : (root : Data) → tables_why root ≡ None → HasRanges (line_of root)
+has_ranges root h =
     let l = line_of root in
     let within = limits root (root_of root h) in
     let others = or_right (root_why root) (option_or (tanks_why root) (stages_why root)) h in
     let tanks_fine = or_left (tanks_why root) (stages_why root) others in
     let stages_fine = or_right (tanks_why root) (stages_why root) others in
-    let names = or_left (between.bad_name l) _ g in
-    let g1 = or_right (between.bad_name l) _ g in
-    let twice = or_left (between.twice_named l) _ g1 in
-    let g2 = or_right (between.twice_named l) _ g1 in
-    let places_differ = or_left (between.same_place l) _ g2 in
-    let g3 = or_right (between.same_place l) _ g2 in
-    let unknown = or_left (between.no_tank l) _ g3 in
-    let g4 = or_right (between.no_tank l) _ g3 in
-    let repeated = or_left (between.twice_tank l) _ g4 in
-    let g5 = or_right (between.twice_tank l) _ g4 in
-    let common = or_left (between.same_tank l) _ g5 in
-    let g6 = or_right (between.same_tank l) _ g5 in
-    let windows = or_left (between.empty_window l) (between.no_room l) g6 in
-    let room = or_right (between.empty_window l) (between.no_room l) g6 in
     let tank_count : length l.tanks ≡ length (tank_tables root) = length-map (tank_tables root) tank_of in
     let stage_count : length l.stages ≡ length (stage_tables root) = length-map (stage_tables root) _ in
     let two : 2 ≤ length (stage_tables root) = omega (arith, within.stages) in
     let small = within.track.1 in
     record {
       limits = within;
-      tanks = has_tanks l names twice places_differ (λ i there.
-          let at_table : position_of l i ≡ number_at (get_or (tank_tables root) i no_value) fields.At = ap (λ (t : Tank). t.at) (tank_is root i (omega arith)) in
-          omega (arith, position_within root i small tanks_fine (omega arith)));
-      stages = has_stages l unknown repeated common (λ k there. tank_counts root stages_fine two k (omega arith));
-      times = has_times root stages_fine two windows;
-      room = ltb-false l.track (between.room_needed l) (given_none _ _ room);
+      on_track = λ i there.
+          let at_table : position_of l i ≡ number_at (get_or (tank_tables root) i no_value) fields.At
+          = ap (λ (t : Tank). t.at) (tank_is root i (omega arith)) in
+          omega (arith, position_within root i small tanks_fine (omega arith));
+      ends = has_ends root stages_fine two;
+      stages = λ k there. ranges_at root stages_fine two k (omega arith);
     }
 
-pub valid : (root : Data) (l : LineData) → tables_why root ≡ None → l ≡ line_of root → between.parts_why l ≡ None → IsLine l
+valid_table : (root : Data) → tables_why root ≡ None → first_flaw (line_of root) ≡ None → IsLine (line_of root)
+valid_table root h g = line_from (line_of root) (has_ranges root h) g
+
+pub valid : (root : Data) (l : LineData) → tables_why root ≡ None → l ≡ line_of root → first_flaw l ≡ None → IsLine l
 valid root l h same g = rw same (valid_table root h (rw same at g))
 
 -- the value at a place, as the table of tanks or stages there

@@ -1,21 +1,20 @@
 -- The text of a line file, part by part.
-use Rattle.std.proofs.Common.{◌≡◌, ℕ, ◌+◌, ◌<◌, ◌==◌, ◌≢◌, take, IsTrue, ◌↔◌, List, [], ◌∷◌, ◌++◌, length, get_or, All, map, flat_map, codes, refl, sym, ap, ◌∙◌, append_assoc, arith, Bool, true, false, if◌then◌else◌, rules}
+use Rattle.std.proofs.Common.{◌≡◌, ℕ, ◌+◌, ◌<◌, ◌==◌, ◌≢◌, take, List, [], ◌∷◌, ◌++◌, length, get_or, All, map, flat_map, codes, refl, sym, ap, ◌∙◌, append_assoc, arith, Bool, false, if◌then◌else◌}
 use Rattle.std.specs.List.{range_with_len}
-use Rattle.std.proofs.lemmas.Bool.{eq-eqb, eqb-true}
+use Rattle.std.proofs.lemmas.Bool.{eq-eqb}
 use Rattle.std.proofs.lemmas.Bool.Decides.{nat_tests}
 use Rattle.std.proofs.lemmas.List.{map-id, append-nil, take_more, get_or_read}
 use Rattle.std.proofs.lemmas.List.Folds.{flat_map-map}
-use Rattle.std.proofs.lemmas.List.Elements.{All-get_or, All-from_get_or, Contains-get_or}
+use Rattle.std.proofs.lemmas.List.Elements.{All-from_get_or, Contains-get_or}
 use Rattle.std.proofs.lemmas.List.FromFn.{map-range_with_len_more}
-use Rattle.std.proofs.lemmas.List.Sums.{AllPass-from_list_all, list_all-from_AllPass}
 use Rattle.std.proofs.lemmas.Grind.{flat_map-append}
 use Rattle.hoist_base.specs.declared.tank.Tank.{Tank}
 use Rattle.hoist_base.specs.declared.stage.Stage.{Stage}
-use Rattle.hoist_base.specs.LineData.{LineData, stage, no_stage, IsSingle}
+use Rattle.hoist_base.specs.LineData.{LineData, stage, no_stage, is_single}
 use Rattle.hoist_base.specs.Valid.{IsLine}
 use Rattle.line_text.specs.declared.fields.Field.{Field}
 use Rattle.line_text.specs.declared.fields.Field.TheVariants as fields
-use Rattle.line_text.specs.Written.{Pair, one_number, is_single, root_pairs, line_file_text, only_tank, all_tanks, window_pairs, stage_pairs, quoted, names_text, pair_text, header_text, tank_text, stage_text}
+use Rattle.line_text.specs.Written.{Pair, one_number, root_pairs, line_file_text, only_tank, all_tanks, window_pairs, stage_pairs, quoted, names_text, pair_text, header_text, tank_text, stage_text}
 
 -- ---- parts behind one another
 
@@ -136,31 +135,6 @@ one_more old text new n f before after =
 pub tanks_there : (l : LineData) (k : ℕ) → IsLine l → All (λ i. i < length l.tanks) (stage l k).tanks
 tanks_there l k valid =
     All-from_get_or (λ i. i < length l.tanks) (stage l k).tanks 0 (λ j there. valid.stages.there k (get_or (stage l k).tanks j 0) (Contains-get_or (stage l k).tanks j 0 there))
-
--- ---- whether every stage has one tank
-
-abbrev has_one : Stage → Bool
-has_one s = length s.tanks == 1
-
-single_test : (l : LineData) → IsSingle l → is_single l ≡ true
-single_test l single =
-    list_all-from_AllPass has_one l.stages (All-from_get_or (λ (s : Stage). has_one s ≡ true) l.stages no_stage
-    (λ k there. eq-eqb (length (stage l k).tanks) 1 (single k there)))
-
-pub test_single : (l : LineData) → is_single l ≡ true → IsSingle l
-test_single l test k there =
-    eqb-true (length (stage l k).tanks) 1
-    (All-get_or (λ (s : Stage). has_one s ≡ true) l.stages k no_stage there (AllPass-from_list_all has_one l.stages test))
-
-same_test : (b c : Bool) → (IsTrue b → c ≡ true) → (c ≡ true → IsTrue b) → b ≡ c
-same_test true true f g = search rules
-same_test false false f g = search rules
-same_test true false f g = absurd (search (rules, f))
-same_test false true f g = absurd (search (rules, g))
-
--- what the line's own test answers is the test of the text
-pub single_is : (l : LineData) (b : Bool) → IsTrue b ↔ IsSingle l → b ≡ is_single l
-single_is l b both = same_test b (is_single l) (λ t. single_test l (both.0 t)) (λ e. both.1 (test_single l e))
 
 -- ---- the whole
 

@@ -20,7 +20,7 @@ use Rattle.toml.proofs.ReadLines.{AllPrinted}
 use Rattle.line_text.specs.declared.fields.Field.{Field}
 use Rattle.line_text.specs.declared.fields.Field.TheVariants as fields
 use Rattle.line_text.specs.Fields.{name_of}
-use Rattle.line_text.specs.Rules.{is_name_byte}
+use Rattle.hoist_base.specs.Flaws.{is_name_byte}
 use Rattle.line_text.specs.Written.{Written, one_number, one_name, several_names, Pair, quoted, names_text, value_text, pair_text, header_text}
 
 -- ---- what is written, as TOML

@@ -8,11 +8,11 @@ use Rattle.toml.proofs.ReadLines.{run}
 use Rattle.toml.proofs.Fill.{run-append}
 use Rattle.hoist_base.specs.declared.tank.Tank.{Tank}
 use Rattle.hoist_base.specs.declared.stage.Stage.{Stage}
-use Rattle.hoist_base.specs.LineData.{LineData, stage}
+use Rattle.hoist_base.specs.LineData.{LineData, stage, is_single}
 use Rattle.line_text.specs.declared.fields.Field.TheVariants as fields
 use Rattle.line_text.specs.Fields.{name_of}
 use Rattle.line_text.specs.Values.{list_of}
-use Rattle.line_text.specs.Written.{Pair, one_number, one_name, several_names, version_of, is_single, root_pairs, tank_pairs, tank_name, only_tank, all_tanks, greatest_pairs, window_pairs, stage_pairs}
+use Rattle.line_text.specs.Written.{Pair, one_number, one_name, several_names, version_of, root_pairs, tank_pairs, tank_name, only_tank, all_tanks, greatest_pairs, window_pairs, stage_pairs}
 use Rattle.line_text.proofs.WrittenLines.{data_of, pair_expression, table_expressions}
 
 -- ---- the root, with what stands in it for the tanks and the stages

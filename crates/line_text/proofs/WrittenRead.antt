@@ -10,13 +10,13 @@ use Rattle.toml.specs.Text.{IsLinesText}
 use Rattle.toml.proofs.Turns.{document_some}
 use Rattle.toml.proofs.Lines.{IsLinesText-append}
 use Rattle.toml.proofs.ReadLines.{AllPrinted, read_lines}
-use Rattle.hoist_base.specs.LineData.{LineData, stage, tank, no_tank}
+use Rattle.hoist_base.specs.LineData.{LineData, stage, tank, no_tank, is_single}
 use Rattle.hoist_base.specs.Valid.{IsLine}
 use Rattle.line_text.specs.declared.fields.Field.TheVariants as fields
 use Rattle.line_text.specs.File.{line_of, why_of, IsLineFile}
-use Rattle.line_text.specs.Written.{Pair, is_single, root_pairs, tank_pairs, tank_name, greatest_pairs, stage_pairs, pair_text, tank_text, stage_text, line_file_text, WrittenLinesAreRead}
+use Rattle.line_text.specs.Written.{Pair, root_pairs, tank_pairs, tank_name, greatest_pairs, stage_pairs, pair_text, tank_text, stage_text, line_file_text, WrittenLinesAreRead}
 use Rattle.line_text.proofs.Documents.{line_files_are_read}
-use Rattle.line_text.proofs.NoFault.{name_bytes}
+use Rattle.hoist_base.proofs.FlawLemmas.{name_bytes}
 use Rattle.line_text.proofs.WrittenLines.{IsNameText, AllStand, pair_expression, pair_lines, table_lines, lines_joined, pairs_printed, table_printed, all_printed, printed_joined, pairs_ascii, table_ascii, ascii_joined}
 use Rattle.line_text.proofs.WrittenNodes.{tank_expressions, stage_expressions, file_expressions, by_form, document_made}
 use Rattle.line_text.proofs.WrittenTables.{at_first, at_last, inner_at, describes, nothing_wrong, version_within}

@@ -1,7 +1,7 @@
 -- The tables of a written line file keep the rules of tables, and describe the line.
 use Rattle.std.proofs.Common.{◌≡◌, ◌≢◌, ◌∙◌, ℕ, suc, ◌+◌, ◌-◌, ◌<◌, ◌≤◌, ◌==◌, Bool, true, false, if◌then◌else◌, List, [], ◌∷◌, map, length, get_or, refl, sym, ap, subst, arith, inl, inr, Option, Some, None, IfSome}
 use Rattle.std.specs.List.{list_all, filter_map, range_with_len}
-use Rattle.std.specs.Option.{option_or}
+use Rattle.std.specs.Option.{option_map, option_or}
 use Rattle.std.specs.Str.{bytes_eq}
 use Rattle.std.proofs.lemmas.Bool.{cases_Bool, eq-eqb}
 use Rattle.std.proofs.lemmas.Bool.Decides.{nat_tests}
@@ -14,7 +14,7 @@ use Rattle.toml.specs.Data.{Data, string, Items, as_str}
 use Rattle.toml.specs.View.{items_of}
 use Rattle.hoist_base.specs.declared.tank.Tank.{Tank}
 use Rattle.hoist_base.specs.declared.stage.Stage.{Stage}
-use Rattle.hoist_base.specs.LineData.{LineData, stage, tank, no_tank, no_stage, last_stage, IsStep}
+use Rattle.hoist_base.specs.LineData.{LineData, stage, tank, no_tank, no_stage, last_stage, IsStep, is_single}
 use Rattle.hoist_base.specs.Valid.{IsLine}
 use Rattle.line_text.specs.declared.fields.Field.TheVariants as fields
 use Rattle.line_text.specs.declared.why.Place.{Place}
@@ -22,13 +22,13 @@ use Rattle.line_text.specs.declared.why.Place.TheVariants as places
 use Rattle.line_text.specs.Fields.{root_rules, tank_rules, stage_rules, first_stage_rules, single_stage_rules, inner_stage_rules, last_stage_rules}
 use Rattle.line_text.specs.Values.{list_of, number_at}
 use Rattle.line_text.specs.Tables.{table_why, is_table, is_text}
-use Rattle.line_text.specs.Rules.{parts_why}
+use Rattle.line_text.specs.Flaws.{flaw_why, parts_why}
 use Rattle.line_text.specs.File.{no_value, tank_of, number_of, stage_of, line_of, root_why, tank_why, stage_why, tanks_why, stages_why, tables_why, why_of}
-use Rattle.line_text.specs.Written.{one_name, several_names, is_single, version_of, tank_name, only_tank, all_tanks, window_pairs}
-use Rattle.line_text.proofs.Firsts.{both_none, none_everywhere}
+use Rattle.line_text.specs.Written.{one_name, several_names, version_of, tank_name, only_tank, all_tanks, window_pairs}
+use Rattle.hoist_base.proofs.Firsts.{both_none, none_everywhere}
 use Rattle.line_text.proofs.Meets.{table_none, natural_small}
-use Rattle.line_text.proofs.NoFault.{no_fault}
-use Rattle.line_text.proofs.WrittenLemmas.{test_single}
+use Rattle.hoist_base.proofs.FlawLemmas.{no_flaw}
+use Rattle.hoist_base.proofs.SingleLemmas.{test_single}
 use Rattle.line_text.proofs.WrittenNodes.{tank_table, stage_table, root_table, pairs_table, by_form, first_form, last_form, inner_form}
 
 -- ---- lists read back
@@ -406,4 +406,4 @@ module _ (l : LineData) (valid : IsLine l) (tanks stages : Items) (tank_tables :
   pub nothing_wrong : why_of (root_table l tanks stages) ≡ None
   nothing_wrong =
       let root = root_table l tanks stages in
-      both_none (tables_why root) (parts_why (line_of root)) tables_none (ap parts_why describes ∙ no_fault l valid)
+      both_none (tables_why root) (parts_why (line_of root)) tables_none (ap parts_why describes ∙ ap (option_map flaw_why) (no_flaw l valid))

@@ -1,5 +1,6 @@
 -- The keys of a line file: their names, the tables that have them, the kinds and ranges of their values.
 use Rattle.std.specs.Prelude.{ℕ, List, [], ◌∷◌, codes, true, false, if◌then◌else◌, ◌==◌, ◌+◌}
+use Rattle.hoist_base.specs.Limits.{max_track, max_gap, max_hoists, max_degree, period_limit, max_dwell, max_lift, max_lower, min_tanks, max_tanks, min_stages, max_stages, max_tanks_of_stage}
 use Rattle.line_text.specs.declared.fields.Field.{Field}
 use Rattle.line_text.specs.declared.fields.Field.TheVariants.{Version, Track, Gap, Hoists, Degree, MaxPeriod, Load, Unload, Tank, Stage, Name, At, Tanks, Min, Max, Lift, Lower}
 use Rattle.line_text.specs.declared.fields.Kind.{Kind}
@@ -35,15 +36,15 @@ may_have f k = record { field = f; required = false; kind = k }
 abbrev pub root_rules : List Rule
 root_rules =
     must_have Version (Integer 1 2)
-    ∷ must_have Track (Integer 1 1000)
-    ∷ must_have Gap (Integer 1 100)
-    ∷ must_have Hoists (Integer 1 6)
-    ∷ must_have Degree (Integer 1 4)
-    ∷ must_have MaxPeriod (Integer 1 20000)
-    ∷ must_have Load (Integer 0 20000)
-    ∷ must_have Unload (Integer 0 20000)
-    ∷ must_have Tank (Tables 2 64)
-    ∷ must_have Stage (Tables 2 32)
+    ∷ must_have Track (Integer 1 max_track)
+    ∷ must_have Gap (Integer 1 max_gap)
+    ∷ must_have Hoists (Integer 1 max_hoists)
+    ∷ must_have Degree (Integer 1 max_degree)
+    ∷ must_have MaxPeriod (Integer 1 period_limit)
+    ∷ must_have Load (Integer 0 max_dwell)
+    ∷ must_have Unload (Integer 0 max_dwell)
+    ∷ must_have Tank (Tables min_tanks max_tanks)
+    ∷ must_have Stage (Tables min_stages max_stages)
     ∷ []
 
 -- of each tank, on a track of this length
@@ -51,23 +52,23 @@ abbrev pub tank_rules : ℕ → List Rule
 tank_rules track = must_have Name Text ∷ must_have At (Integer 0 track) ∷ []
 
 abbrev pub lift_rule : Rule
-lift_rule = must_have Lift (Integer 1 500)
+lift_rule = must_have Lift (Integer 1 max_lift)
 
 abbrev pub lower_rule : Rule
-lower_rule = must_have Lower (Integer 1 500)
+lower_rule = must_have Lower (Integer 1 max_lower)
 
 -- of the first stage, of an inner stage whose one tank or whose tanks are named, and of the last stage
 abbrev pub first_stage_rules : List Rule
 first_stage_rules = must_have Tank Text ∷ lift_rule ∷ []
 
 abbrev pub window_rules : List Rule
-window_rules = must_have Min (Integer 1 20000) ∷ may_have Max (Integer 1 20000) ∷ lift_rule ∷ lower_rule ∷ []
+window_rules = must_have Min (Integer 1 max_dwell) ∷ may_have Max (Integer 1 max_dwell) ∷ lift_rule ∷ lower_rule ∷ []
 
 abbrev pub single_stage_rules : List Rule
 single_stage_rules = must_have Tank Text ∷ window_rules
 
 abbrev pub inner_stage_rules : List Rule
-inner_stage_rules = must_have Tanks (Texts 1 4) ∷ window_rules
+inner_stage_rules = must_have Tanks (Texts 1 max_tanks_of_stage) ∷ window_rules
 
 abbrev pub last_stage_rules : List Rule
 last_stage_rules = must_have Tank Text ∷ lower_rule ∷ []

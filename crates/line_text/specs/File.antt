@@ -7,6 +7,7 @@ use Rattle.toml.specs.Data.{Data, table, Members, no_members, as_str}
 use Rattle.toml.specs.Parse.{parse_document}
 use Rattle.hoist_base.specs.declared.tank.Tank.{Tank}
 use Rattle.hoist_base.specs.declared.stage.Stage.{Stage}
+use Rattle.hoist_base.specs.Firsts.{first_some, numbers}
 use Rattle.hoist_base.specs.LineData.{LineData}
 use Rattle.line_text.specs.declared.fields.Field.TheVariants as fields
 use Rattle.line_text.specs.declared.why.Place.TheVariants as places
@@ -16,8 +17,8 @@ use Rattle.line_text.specs.declared.why.LineRead.{LineRead}
 use Rattle.line_text.specs.declared.why.LineRead.TheVariants.{Ready, Refused}
 use Rattle.line_text.specs.Fields.{root_rules, tank_rules, stage_rules}
 use Rattle.line_text.specs.Values.{number_at, number_if, text_at, text_if, items_at}
-use Rattle.line_text.specs.Tables.{first_some, numbers, table_why}
-use Rattle.line_text.specs.Rules.{parts_why}
+use Rattle.line_text.specs.Tables.{table_why}
+use Rattle.line_text.specs.Flaws.{parts_why}
 
 -- ---- what the tables say
 

@@ -1,7 +1,7 @@
 pub mod Fields
 pub mod Values
 pub mod Tables
-pub mod Rules
+pub mod Flaws
 pub mod File
 pub mod Names
 pub mod Refusal

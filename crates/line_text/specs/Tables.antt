@@ -1,11 +1,12 @@
 -- The rules of one table of a line file, each with the refusal of the first key that breaks it.
-use Rattle.std.specs.Prelude.{ℕ, ◌-◌, ℤ, pos, negsuc, List, [], ◌∷◌, Bool, true, false, not, ◌&&◌, Option, Some, None, is_some, is_none, option_map, option_and_then, if◌then◌else◌, nat_le, length, filter}
-use Rattle.std.specs.List.{list_all, list_any, reduce, range_with_len}
+use Rattle.std.specs.Prelude.{ℕ, ℤ, pos, negsuc, List, Bool, true, false, not, ◌&&◌, Option, is_some, is_none, option_map, option_and_then, nat_le, length, filter}
+use Rattle.std.specs.List.{list_all, list_any, reduce}
 use Rattle.std.specs.Option.{option_or, option_map_or}
 use Rattle.std.specs.Ordering.{nat_cmp, match_ordering}
 use Rattle.std.specs.Cmp.Lexicographic.{slice_cmp}
 use Rattle.std.specs.Str.{bytes_eq}
 use Rattle.toml.specs.Data.{Data, as_integer, as_str, as_table}
+use Rattle.hoist_base.specs.Firsts.{first_some, given}
 use Rattle.line_text.specs.declared.fields.Kind.{Kind}
 use Rattle.line_text.specs.declared.fields.Kind.TheVariants.{Integer, Text, Tables, Texts}
 use Rattle.line_text.specs.declared.fields.Rule.{Rule}
@@ -16,24 +17,8 @@ use Rattle.line_text.specs.declared.why.Why.TheVariants.{Missing, Unknown, Wrong
 use Rattle.line_text.specs.Fields.{name_of}
 use Rattle.line_text.specs.Values.{elements, keys_of, value_at}
 
--- what h gives of the first item of which it gives anything
-abbrev pub first_some : {X Y : Type 0} → (X → Option Y) → List X → Option Y
-first_some h [] = None
-first_some h (x ∷ xs) = option_or (h x) (first_some h xs)
-
--- the numbers from a on, below n
-abbrev pub numbers_from : ℕ → ℕ → List ℕ
-numbers_from a n = range_with_len a (n - a)
-
-abbrev pub numbers : ℕ → List ℕ
-numbers n = numbers_from 0 n
-
 abbrev pub key_at : Place → List ℕ → Key
 key_at place name = record { table = place; name = name }
-
--- where b holds, this
-abbrev pub given : {X : Type 0} → Bool → X → Option X
-given b x = if b then Some x else None
 
 -- ---- the key is required and absent
 

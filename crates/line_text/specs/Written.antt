@@ -1,9 +1,9 @@
 -- The text of a line file: each table as a list of keys with their values.
-use Rattle.std.specs.Prelude.{◌≡◌, ℕ, ◌+◌, ◌==◌, List, [], ◌∷◌, ◌++◌, codes, decimal, length, get_or, map, flat_map, Bool, if◌then◌else◌, Option, Some, None}
-use Rattle.std.specs.List.{list_all, range_with_len}
+use Rattle.std.specs.Prelude.{◌≡◌, ℕ, ◌+◌, ◌==◌, List, [], ◌∷◌, ◌++◌, codes, decimal, length, get_or, map, flat_map, if◌then◌else◌, Option, Some, None}
+use Rattle.std.specs.List.{range_with_len}
 use Rattle.hoist_base.specs.declared.tank.Tank.{Tank}
 use Rattle.hoist_base.specs.declared.stage.Stage.{Stage}
-use Rattle.hoist_base.specs.LineData.{LineData, stage, tank}
+use Rattle.hoist_base.specs.LineData.{LineData, stage, tank, is_single}
 use Rattle.hoist_base.specs.Valid.{IsLine}
 use Rattle.line_text.specs.declared.fields.Field.{Field}
 use Rattle.line_text.specs.declared.fields.Field.TheVariants as fields
@@ -21,10 +21,6 @@ abbrev pub Pair : Type 0
 Pair = Field × Written
 
 -- ---- the keys of each table, in their order
-
--- every stage has one tank
-abbrev pub is_single : LineData → Bool
-is_single l = list_all (λ (s : Stage). length s.tanks == 1) l.stages
 
 abbrev pub version_of : LineData → ℕ
 version_of l = if is_single l then 1 else 2

@@ -2,6 +2,11 @@
 ghost use Rattle.std.specs.Prelude.{◌≡◌};
 ghost use Rattle.line_text.specs.Fields.{name_of, must_have, may_have, root_rules, tank_rules, first_stage_rules, single_stage_rules, inner_stage_rules, last_stage_rules};
 
+use hoist_base::limits::{
+    MAX_DEGREE, MAX_DWELL, MAX_GAP, MAX_HOISTS, MAX_LIFT, MAX_LOWER, MAX_STAGES, MAX_TANKS,
+    MAX_TANKS_OF_STAGE, MAX_TRACK, MIN_STAGES, MIN_TANKS, PERIOD_LIMIT,
+};
+
 /// The keys of a line file. `tank` is a key of the root and of stages.
 #[derive(Clone, Copy, Debug, PartialEq, Eq)]
 pub enum Field {
@@ -101,15 +106,27 @@ pub fn root_rules() -> [Rule; 10]
 {
     [
         required(Field::Version, integer(1, 2)),
-        required(Field::Track, integer(1, 1000)),
-        required(Field::Gap, integer(1, 100)),
-        required(Field::Hoists, integer(1, 6)),
-        required(Field::Degree, integer(1, 4)),
-        required(Field::MaxPeriod, integer(1, 20000)),
-        required(Field::Load, integer(0, 20000)),
-        required(Field::Unload, integer(0, 20000)),
-        required(Field::Tank, Kind::Tables { low: 2, high: 64 }),
-        required(Field::Stage, Kind::Tables { low: 2, high: 32 }),
+        required(Field::Track, integer(1, MAX_TRACK)),
+        required(Field::Gap, integer(1, MAX_GAP)),
+        required(Field::Hoists, integer(1, MAX_HOISTS)),
+        required(Field::Degree, integer(1, MAX_DEGREE)),
+        required(Field::MaxPeriod, integer(1, PERIOD_LIMIT)),
+        required(Field::Load, integer(0, MAX_DWELL)),
+        required(Field::Unload, integer(0, MAX_DWELL)),
+        required(
+            Field::Tank,
+            Kind::Tables {
+                low: MIN_TANKS,
+                high: MAX_TANKS,
+            },
+        ),
+        required(
+            Field::Stage,
+            Kind::Tables {
+                low: MIN_STAGES,
+                high: MAX_STAGES,
+            },
+        ),
     ]
 }
 
@@ -129,7 +146,7 @@ pub fn first_stage_rules() -> [Rule; 2]
 {
     [
         required(Field::Tank, Kind::Text),
-        required(Field::Lift, integer(1, 500)),
+        required(Field::Lift, integer(1, MAX_LIFT)),
     ]
 }
 
@@ -139,10 +156,10 @@ pub fn single_stage_rules() -> [Rule; 5]
 {
     [
         required(Field::Tank, Kind::Text),
-        required(Field::Min, integer(1, 20000)),
-        optional(Field::Max, integer(1, 20000)),
-        required(Field::Lift, integer(1, 500)),
-        required(Field::Lower, integer(1, 500)),
+        required(Field::Min, integer(1, MAX_DWELL)),
+        optional(Field::Max, integer(1, MAX_DWELL)),
+        required(Field::Lift, integer(1, MAX_LIFT)),
+        required(Field::Lower, integer(1, MAX_LOWER)),
     ]
 }
 
@@ -151,11 +168,17 @@ pub fn inner_stage_rules() -> [Rule; 5]
     ensures { result ≡ inner_stage_rules }
 {
     [
-        required(Field::Tanks, Kind::Texts { low: 1, high: 4 }),
-        required(Field::Min, integer(1, 20000)),
-        optional(Field::Max, integer(1, 20000)),
-        required(Field::Lift, integer(1, 500)),
-        required(Field::Lower, integer(1, 500)),
+        required(
+            Field::Tanks,
+            Kind::Texts {
+                low: 1,
+                high: MAX_TANKS_OF_STAGE,
+            },
+        ),
+        required(Field::Min, integer(1, MAX_DWELL)),
+        optional(Field::Max, integer(1, MAX_DWELL)),
+        required(Field::Lift, integer(1, MAX_LIFT)),
+        required(Field::Lower, integer(1, MAX_LOWER)),
     ]
 }
 
@@ -165,6 +188,6 @@ pub fn last_stage_rules() -> [Rule; 2]
 {
     [
         required(Field::Tank, Kind::Text),
-        required(Field::Lower, integer(1, 500)),
+        required(Field::Lower, integer(1, MAX_LOWER)),
     ]
 }

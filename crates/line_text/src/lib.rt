@@ -6,10 +6,10 @@ mod laws;
 mod parts;
 mod read;
 mod refusal;
-mod rules;
 mod tables;
 #[cfg(test)]
 mod tests;
+mod texts;
 mod values;
 mod why;
 mod write;

@@ -9,7 +9,8 @@ ghost use Rattle.indexmap.specs.IndexMap.{get_by_text};
 ghost use Rattle.hoist_base.specs.declared.tank.Tank.{Tank};
 ghost use Rattle.hoist_base.specs.PartsData.{data_of};
 ghost use Rattle.line_text.specs.Values.{items_at};
-ghost use Rattle.line_text.specs.Tables.{given};
+ghost use Rattle.hoist_base.specs.Firsts.{given};
+ghost use Rattle.hoist_base.specs.Limits.{max_tanks};
 ghost use Rattle.line_text.specs.File.{tank_of, tank_tables, stage_of, stage_names, line_of};
 ghost use Rattle.line_text.specs.Names.{IsNumbering};
 
@@ -62,7 +63,7 @@ fn add_name(
 
 /// The tanks' numbers by their names.
 fn numbers_of(alloc: Global, tables: &[Value]) -> Result<IndexMap<String, u32>, AllocError>
-    requires { length tables.now ≤ 64 }
+    requires { length tables.now ≤ max_tanks }
     ensures { IfOk result (λ numbers. IsNumbering numbers (map tank_of (map view tables.now))) }
 {
     let mut numbers = IndexMap::new(alloc);
@@ -88,7 +89,7 @@ fn number_of(numbers: &IndexMap<String, u32>, count: u32, name: &str) -> u32
 }
 
 /// Puts the number of the item behind those found, where it is a text.
-fn push_number(
+fn push_tank_number(
     found: &mut Vec<u32>,
     numbers: &IndexMap<String, u32>,
     count: u32,
@@ -116,7 +117,7 @@ fn numbers_among(
 {
     let mut found = Vec::new(alloc);
     for item in items {
-        push_number(&mut found, numbers, count, item)?;
+        push_tank_number(&mut found, numbers, count, item)?;
     }
     Ok(found)
 }
@@ -136,8 +137,7 @@ fn stage_tanks(
         only.push(number_of(numbers, count, name))?;
         return Ok(only);
     }
-    let found = numbers_among(alloc, numbers, count, items_at(table, Field::Tanks))?;
-    Ok(found)
+    numbers_among(alloc, numbers, count, items_at(table, Field::Tanks))
 }
 
 fn stage_of(
@@ -177,7 +177,7 @@ fn stages_of(
 
 /// The parts of the line that a root table describes. A name that no tank has gets the number past the last tank.
 pub fn parts_of(alloc: Global, root: &Value) -> Result<LineParts, AllocError>
-    requires { length (tank_tables (view root.now)) ≤ 64 }
+    requires { length (tank_tables (view root.now)) ≤ max_tanks }
     ensures { IfOk result (λ parts. data_of parts ≡ line_of (view root.now)) }
 {
     let tables = items_at(root, Field::Tank);

@@ -1,7 +1,8 @@
 // Reading a line file.
 ghost use Rattle.std.specs.Prelude.{◌≡◌, ◌≤◌, ◌<◌, IfOk, None, map, length, get_or};
 ghost use Rattle.toml.specs.View.{view};
-ghost use Rattle.line_text.specs.Tables.{first_some, numbers};
+ghost use Rattle.hoist_base.specs.Firsts.{first_some, numbers};
+ghost use Rattle.hoist_base.specs.Limits.{max_tanks, max_stages};
 ghost use Rattle.line_text.specs.File.{no_value, tank_tables, stage_tables, root_why, tank_why, stage_why, tables_why, table_read, bytes_read};
 
 use crate::fields::{
@@ -9,7 +10,6 @@ use crate::fields::{
     tank_rules,
 };
 use crate::parts::parts_of;
-use crate::rules::parts_why;
 use crate::tables::table_why;
 use crate::values::{items_at, number_at};
 use crate::why::{LineRead, Place, Why};
@@ -29,8 +29,7 @@ fn item_at(items: &[Value], i: usize) -> &Value
 fn root_why(alloc: Global, root: &Value) -> Result<Option<Why>, AllocError>
     ensures { IfOk result (λ why. why ≡ root_why (view root.now)) }
 {
-    let why = table_why(alloc, Place::Root, &root_rules(), root)?;
-    Ok(why)
+    table_why(alloc, Place::Root, &root_rules(), root)
 }
 
 /// The tanks' tables of a root table with no fault.
@@ -38,7 +37,7 @@ fn root_why(alloc: Global, root: &Value) -> Result<Option<Why>, AllocError>
 fn tank_tables(root: &Value) -> &[Value]
     requires { root_why (view root.now) ≡ None }
     ensures tables { map view result.now ≡ tank_tables (view root.now) }
-    ensures few { length result.now ≤ 64 }
+    ensures few { length result.now ≤ max_tanks }
 {
     items_at(root, Field::Tank)
 }
@@ -48,7 +47,7 @@ fn tank_tables(root: &Value) -> &[Value]
 fn stage_tables(root: &Value) -> &[Value]
     requires { root_why (view root.now) ≡ None }
     ensures tables { map view result.now ≡ stage_tables (view root.now) }
-    ensures few { length result.now ≤ 32 }
+    ensures few { length result.now ≤ max_stages }
 {
     items_at(root, Field::Stage)
 }
@@ -59,14 +58,13 @@ fn tank_why(alloc: Global, track: u32, tanks: &[Value], i: u32) -> Result<Option
     ensures { IfOk result (λ why. why ≡ tank_why track (map view tanks.now) i) }
 {
     let table = item_at(tanks, i as usize);
-    let why = table_why(alloc, Place::Tank(i), &tank_rules(track), table)?;
-    Ok(why)
+    table_why(alloc, Place::Tank(i), &tank_rules(track), table)
 }
 
 /// The first fault of the tanks' tables.
-#[tactic(auto, using(crate::proofs::Numbers::numbers_more, crate::proofs::Numbers::numbers_none))]
+#[tactic(auto, using(hoist_base::proofs::Firsts::numbers_more, hoist_base::proofs::Firsts::numbers_none))]
 fn tanks_why(alloc: Global, track: u32, tanks: &[Value]) -> Result<Option<Why>, AllocError>
-    requires { length tanks.now ≤ 64 }
+    requires { length tanks.now ≤ max_tanks }
     ensures { IfOk result (λ why. why ≡ first_some (tank_why track (map view tanks.now)) (numbers (length tanks.now))) }
 {
     for i in 0..tanks.len() as u32 {
@@ -84,32 +82,28 @@ fn stage_why(
     stages: &[Value],
     k: u32,
 ) -> Result<Option<Why>, AllocError>
-    requires few { length stages.now ≤ 32 }
+    requires few { length stages.now ≤ max_stages }
     requires there { k < length stages.now }
     ensures { IfOk result (λ why. why ≡ stage_why version (map view stages.now) k) }
 {
     let place = Place::Stage(k);
     let table = item_at(stages, k as usize);
     if k == 0 {
-        let why = table_why(alloc, place, &first_stage_rules(), table)?;
-        return Ok(why);
+        return table_why(alloc, place, &first_stage_rules(), table);
     }
     if k + 1 == stages.len() as u32 {
-        let why = table_why(alloc, place, &last_stage_rules(), table)?;
-        return Ok(why);
+        return table_why(alloc, place, &last_stage_rules(), table);
     }
     if version == 1 {
-        let why = table_why(alloc, place, &single_stage_rules(), table)?;
-        return Ok(why);
+        return table_why(alloc, place, &single_stage_rules(), table);
     }
-    let why = table_why(alloc, place, &inner_stage_rules(), table)?;
-    Ok(why)
+    table_why(alloc, place, &inner_stage_rules(), table)
 }
 
 /// The first fault of the stages' tables.
-#[tactic(auto, using(crate::proofs::Numbers::numbers_more, crate::proofs::Numbers::numbers_none))]
+#[tactic(auto, using(hoist_base::proofs::Firsts::numbers_more, hoist_base::proofs::Firsts::numbers_none))]
 fn stages_why(alloc: Global, version: u32, stages: &[Value]) -> Result<Option<Why>, AllocError>
-    requires { length stages.now ≤ 32 }
+    requires { length stages.now ≤ max_stages }
     ensures { IfOk result (λ why. why ≡ first_some (stage_why version (map view stages.now)) (numbers (length stages.now))) }
 {
     for k in 0..stages.len() as u32 {
@@ -134,8 +128,7 @@ fn tables_why(alloc: Global, root: &Value) -> Result<Option<Why>, AllocError>
         return Ok(why);
     }
     let version = number_at(root, Field::Version);
-    let why = stages_why(alloc, version, stage_tables(root))?;
-    Ok(why)
+    stages_why(alloc, version, stage_tables(root))
 }
 
 fn read_table(alloc: Global, root: &Value) -> Result<LineRead, AllocError>
@@ -145,17 +138,17 @@ fn read_table(alloc: Global, root: &Value) -> Result<LineRead, AllocError>
         Some(why) => Ok(LineRead::Refused(why)),
         None => {
             let parts = parts_of(alloc, root)?;
-            match parts_why(&parts) {
-                Some(why) => Ok(LineRead::Refused(why)),
+            match parts.first_flaw() {
+                Some(flaw) => Ok(LineRead::Refused(Why::of_flaw(flaw))),
                 None => Ok(LineRead::Ready(Line::new(parts))),
             }
         }
     }
 }
 
-/// Reads a line file. What the bytes give is the line of the file, or the first thing that is wrong with it: that they are no
-/// TOML document; then what is wrong with a table by itself, the root, each tank and each stage in turn; then what is wrong
-/// between the parts.
+/// Reads a line file. What the bytes give is the line of the file, or the first thing that is wrong with it: that
+/// they are no TOML document; then what is wrong with a table by itself, the root, each tank and each stage in turn;
+/// then what is wrong between the parts.
 ///
 /// # Errors
 ///
@@ -164,10 +157,7 @@ pub fn read_line(alloc: Global, bytes: &[u8]) -> Result<LineRead, AllocError>
     ensures { IfOk result (λ read. read ≡ bytes_read bytes.now) }
 {
     match toml::table_from_slice(alloc, bytes) {
-        Ok(table) => {
-            let read = read_table(alloc, &Value::Table(table))?;
-            Ok(read)
-        }
+        Ok(table) => read_table(alloc, &Value::Table(table)),
         Err(e) => {
             if e.is_memory() {
                 Err(AllocError)

@@ -3,22 +3,16 @@ ghost use Rattle.std.specs.Prelude.{◌≡◌, ◌++◌, IfOk, OnOk, decimal, ma
 ghost use Rattle.std.specs.Fmt.{signed_decimal};
 ghost use Rattle.line_text.specs.Refusal.{tank_text, stage_text, place_text, shown, key_text, refusal_of};
 
+use crate::texts::push_decimal;
 use crate::why::{Key, Place, Why};
 use itoa::Buffer;
 use std::alloc::{AllocError, Global};
-
-fn push_number(text: &mut Vec<u8>, number: u32) -> Result<(), AllocError>
-    ensures { OnOk result (text.new.items ≡ text.old.items ++ decimal number) }
-{
-    let mut buffer = Buffer::new();
-    text.extend_from_slice(buffer.format(number).as_bytes())
-}
 
 fn push_tank(text: &mut Vec<u8>, tank: u32) -> Result<(), AllocError>
     ensures { OnOk result (text.new.items ≡ text.old.items ++ tank_text tank) }
 {
     text.extend_from_slice(b"tank[")?;
-    push_number(text, tank)?;
+    push_decimal(text, tank)?;
     text.extend_from_slice(b"]")
 }
 
@@ -26,7 +20,7 @@ fn push_stage(text: &mut Vec<u8>, stage: u32) -> Result<(), AllocError>
     ensures { OnOk result (text.new.items ≡ text.old.items ++ stage_text stage) }
 {
     text.extend_from_slice(b"stage[")?;
-    push_number(text, stage)?;
+    push_decimal(text, stage)?;
     text.extend_from_slice(b"]")
 }
 
@@ -124,14 +118,14 @@ fn at_numbers(alloc: Global, words: &[u8], a: u32, b: u32) -> Result<Vec<u8>, Al
     ensures { IfOk result (λ text. text.items ≡ words.now ++ (decimal a ++ (codes " " ++ decimal b))) }
 {
     let mut text = Vec::from_slice(alloc, words)?;
-    push_number(&mut text, a)?;
+    push_decimal(&mut text, a)?;
     text.extend_from_slice(b" ")?;
-    push_number(&mut text, b)?;
+    push_decimal(&mut text, b)?;
     Ok(text)
 }
 
-/// What is wrong with a line file, in words without an end of line: a key is written by its name at the root, else behind its
-/// table, as in `tank[0].at`; a byte of a key that can't be seen is written `?`.
+/// What is wrong with a line file, in words without an end of line: a key is written by its name at the root, else
+/// behind its table, as in `tank[0].at`; a byte of a key that can't be seen is written `?`.
 ///
 /// # Errors
 ///

@@ -5,8 +5,9 @@ ghost use Rattle.std.specs.BTreeMap.{keys, IsOrdered};
 ghost use Rattle.std.specs.String.{string_cmp};
 ghost use Rattle.toml.specs.View.{view};
 ghost use Rattle.std.specs.Option.{option_map_or};
+ghost use Rattle.hoist_base.specs.Firsts.{first_some};
 ghost use Rattle.line_text.specs.Values.{elements};
-ghost use Rattle.line_text.specs.Tables.{key_at, missing_why, unknown_why, kind_why, range_why, table_why, is_kind, is_table, is_text, is_listed, is_within, is_in_range, extent, unknown_keys, first_text, first_some};
+ghost use Rattle.line_text.specs.Tables.{key_at, missing_why, unknown_why, kind_why, range_why, table_why, is_kind, is_table, is_text, is_listed, is_within, is_in_range, extent, unknown_keys, first_text};
 
 use crate::fields::{Kind, Rule};
 use crate::values::{elements, value_at};

@@ -1,5 +1,8 @@
 // What reading a line file gives.
-use hoist_base::{Line, Name};
+ghost use Rattle.std.specs.Prelude.{◌≡◌};
+ghost use Rattle.line_text.specs.Flaws.{flaw_why};
+
+use hoist_base::{Flaw, Line, Name};
 
 /// A table of a line file: the root, a tank or a stage by its number, from 0.
 #[derive(Clone, Copy, Debug, PartialEq, Eq)]
@@ -45,6 +48,24 @@ pub enum Why {
     EmptyWindow { stage: u32 },
     /// The hoists side by side need more than the track.
     NoRoom { need: u32, track: u32 },
+}
+
+impl Why {
+    /// What is wrong with a file whose line has this flaw.
+    pub fn of_flaw(flaw: Flaw) -> Why
+        ensures { result ≡ flaw_why flaw }
+    {
+        match flaw {
+            Flaw::BadName { tank } => Why::BadName { tank },
+            Flaw::TwiceNamed { a, b } => Why::TwiceNamed { a, b },
+            Flaw::SamePlace { a, b } => Why::SamePlace { a, b },
+            Flaw::NoTank { stage } => Why::NoTank { stage },
+            Flaw::TwiceTank { stage } => Why::TwiceTank { stage },
+            Flaw::SameTank { stage } => Why::SameTank { stage },
+            Flaw::EmptyWindow { stage } => Why::EmptyWindow { stage },
+            Flaw::NoRoom { need, track } => Why::NoRoom { need, track },
+        }
+    }
 }
 
 /// The line of a file, or why the file has none.

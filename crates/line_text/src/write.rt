@@ -1,15 +1,15 @@
 // Writing a line file.
 ghost use Rattle.std.specs.Prelude.{◌≡◌, ◌<◌, ◌++◌, ◌∷◌, All, IfOk, OnOk, codes, flat_map, map, length, if◌then◌else◌};
 ghost use Rattle.std.specs.List.{range_with_len};
-ghost use Rattle.hoist_base.specs.LineData.{IsStageOf};
+ghost use Rattle.hoist_base.specs.LineData.{is_single, IsStageOf};
 ghost use Rattle.line_text.specs.Fields.{name_of};
 ghost use Rattle.line_text.specs.File.{bytes_read};
 ghost use Rattle.line_text.specs.declared.why.LineRead.TheVariants.{Ready};
-ghost use Rattle.line_text.specs.Written.{one_number, one_name, is_single, root_pairs, tank_name, only_tank, all_tanks, greatest_pairs, window_pairs, quoted, names_text, pair_text, header_text, tank_text, stage_text, line_file_text};
+ghost use Rattle.line_text.specs.Written.{one_number, one_name, root_pairs, tank_name, only_tank, all_tanks, greatest_pairs, window_pairs, quoted, names_text, pair_text, header_text, tank_text, stage_text, line_file_text};
 
 use crate::fields::Field;
+use crate::texts::push_decimal;
 use hoist_base::{Line, Stage, Tank};
-use itoa::Buffer;
 use std::alloc::{AllocError, Global};
 
 fn push_key(text: &mut Vec<u8>, field: Field) -> Result<(), AllocError>
@@ -23,8 +23,7 @@ fn push_number(text: &mut Vec<u8>, field: Field, number: u32) -> Result<(), Allo
     ensures { OnOk result (text.new.items ≡ text.old.items ++ pair_text (field, one_number number)) }
 {
     push_key(text, field)?;
-    let mut buffer = Buffer::new();
-    text.extend_from_slice(buffer.format(number).as_bytes())?;
+    push_decimal(text, number)?;
     text.extend_from_slice(b"\n")
 }
 
@@ -61,7 +60,8 @@ fn push_one_more(text: &mut Vec<u8>, name: &[u8]) -> Result<(), AllocError>
 /// The names of these tanks, with a comma and a space before each.
 fn push_more_names(text: &mut Vec<u8>, line: &Line, tanks: &[u32]) -> Result<(), AllocError>
     requires { All (λ i. i < length line.now.tanks) tanks.now }
-    ensures { OnOk result (text.new.items ≡ text.old.items ++ flat_map (λ i. codes ", " ++ quoted (tank_name line.now i)) tanks.now) }
+    ensures { OnOk result (text.new.items
+        ≡ text.old.items ++ flat_map (λ i. codes ", " ++ quoted (tank_name line.now i)) tanks.now) }
 {
     for tank in tanks {
         push_one_more(text, tank_name(line, *tank))?;
@@ -157,7 +157,8 @@ fn push_inner(
 ) -> Result<(), AllocError>
     requires some { 0 < length stage.now.tanks }
     requires there { All (λ i. i < length line.now.tanks) stage.now.tanks }
-    ensures { OnOk result (text.new.items ≡ text.old.items ++ flat_map pair_text ((if single then only_tank line.now stage.now else all_tanks line.now stage.now) ∷ window_pairs stage.now)) }
+    ensures { OnOk result (text.new.items ≡ text.old.items ++ flat_map pair_text
+        ((if single then only_tank line.now stage.now else all_tanks line.now stage.now) ∷ window_pairs stage.now)) }
 {
     if single {
         push_only_tank(text, line, stage)?;
@@ -192,7 +193,8 @@ fn push_stage(text: &mut Vec<u8>, line: &Line, single: bool, k: u32) -> Result<(
 #[tactic(auto, using(crate::proofs::WrittenLemmas::one_more))]
 fn push_stages(text: &mut Vec<u8>, line: &Line, single: bool) -> Result<(), AllocError>
     requires { single ≡ is_single line.now }
-    ensures { OnOk result (text.new.items ≡ text.old.items ++ flat_map (stage_text line.now) (range_with_len 0 (length line.now.stages))) }
+    ensures { OnOk result (text.new.items
+        ≡ text.old.items ++ flat_map (stage_text line.now) (range_with_len 0 (length line.now.stages))) }
 {
     for k in 0..line.stages().len() as u32 {
         push_stage(text, line, single, k)?;
@@ -223,8 +225,8 @@ fn push_root(text: &mut Vec<u8>, line: &Line, single: bool) -> Result<(), AllocE
     Ok(())
 }
 
-/// The text of a line file that describes the line: in version 1 where every stage has one tank, else in version 2. It is
-/// read as the same line.
+/// The text of a line file that describes the line: in version 1 where every stage has one tank, else in version 2.
+/// It is read as the same line.
 ///
 /// # Errors
 ///

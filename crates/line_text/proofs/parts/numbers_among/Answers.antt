@@ -10,6 +10,6 @@ loop-item-preserved c =
     let more = texts_more (λ name. unwrap_or (get_by_text c.args.numbers.now name) c.args.count) c.args.items.now c.loop-item.item-index c.item-item.result c.loop-item-test.true in
     let is = c.item-item.is in
     let text : as_str (view (get_or c.args.items.now c.loop-item.item-index c.item-item.result)) ≡ as_str (view c.item-item.result) = ap (λ v. as_str (view v)) (sym is) in
-    let added = c.in_ok-push_number.ensures in
+    let added = c.in_ok-push_tank_number.ensures in
     let before = c.loop-item.invariant in
     cc

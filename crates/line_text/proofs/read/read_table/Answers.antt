@@ -7,11 +7,11 @@ use Rattle.line_text.proofs.read.read_table.Goals as goal
 pub parts_of-requires : goal.parts_of-requires
 parts_of-requires c = few_tables (view c.args.root.now) (sym c.in_ok-why.ensures ∙ c.in-None.is)
 
-pub parts_why-requires : goal.parts_why-requires
-parts_why-requires c =
+pub first_flaw-requires : goal.first_flaw-requires
+first_flaw-requires c =
     within_limits (view c.args.root.now) (data_of c.in_ok-parts-in-None.parts) (sym c.in_ok-why.ensures ∙ c.in-None.is) c.in_ok-parts-in-None.ensures
 
 pub new-requires : goal.new-requires
 new-requires c =
     valid (view c.args.root.now) (data_of c.in_ok-parts-in-None.parts) (sym c.in_ok-why.ensures ∙ c.in-None.is) c.in_ok-parts-in-None.ensures
-    (sym c.parts_why.ensures ∙ c.in-None-parts_why.is)
+    (sym c.first_flaw.ensures ∙ c.in-None-first_flaw.is)

@@ -1,6 +1,6 @@
 use Rattle.std.proofs.Common.{◌≡◌, length, map}
 use Rattle.toml.specs.View.{view}
-use Rattle.line_text.specs.Tables.{first_some, numbers_from}
+use Rattle.hoist_base.specs.Firsts.{first_some, numbers_from}
 use Rattle.line_text.specs.File.{tank_why}
 use Rattle.line_text.proofs.read.tanks_why.Given as goal
 

@@ -1,6 +1,7 @@
 use Rattle.std.proofs.Common.{◌≡◌, drop}
 use Rattle.toml.specs.View.{view}
-use Rattle.line_text.specs.Tables.{first_some, range_why}
+use Rattle.hoist_base.specs.Firsts.{first_some}
+use Rattle.line_text.specs.Tables.{range_why}
 use Rattle.line_text.proofs.tables.first_out_of_range.Given as goal
 
 abbrev pub invariant-loop-rule : goal.invariant-loop-rule

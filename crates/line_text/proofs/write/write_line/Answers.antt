@@ -2,15 +2,15 @@ use Rattle.std.proofs.Common.{◌++◌, ap, ◌∙◌}
 use Rattle.std.specs.List.{flat_map}
 use Rattle.line_text.specs.File.{bytes_read}
 use Rattle.line_text.specs.Written.{tank_text}
-use Rattle.line_text.proofs.WrittenLemmas.{whole, single_is}
+use Rattle.line_text.proofs.WrittenLemmas.{whole}
 use Rattle.line_text.proofs.WrittenRead.{written_lines_are_read}
 use Rattle.line_text.proofs.write.write_line.Goals as goal
 
 pub push_root-requires : goal.push_root-requires
-push_root-requires c = single_is c.args.line.now c.single-single.result c.single-single.ensures.value
+push_root-requires c = c.single-single.ensures.test
 
 pub push_stages-requires : goal.push_stages-requires
-push_stages-requires c = single_is c.args.line.now c.single-single.result c.single-single.ensures.value
+push_stages-requires c = c.single-single.ensures.test
 
 pub returns : goal.returns
 returns c =

@@ -1,8 +1,0 @@
-use Rattle.std.proofs.Common.{◌≡◌, length}
-use Rattle.std.specs.List.{list_any}
-use Rattle.line_text.specs.Tables.{numbers_from}
-use Rattle.line_text.specs.Rules.{is_repeated}
-use Rattle.line_text.proofs.rules.has_twice.Given as goal
-
-abbrev pub invariant-loop-a : goal.invariant-loop-a
-invariant-loop-a l = list_any (is_repeated l.tanks) (numbers_from 0 (length l.tanks)) ≡ list_any (is_repeated l.tanks) (numbers_from l.a (length l.tanks))

@@ -1,8 +1,0 @@
-use Rattle.std.proofs.Common.{◌≡◌, length}
-use Rattle.hoist_base.specs.PartsData.{data_of}
-use Rattle.line_text.specs.Tables.{first_some, numbers_from}
-use Rattle.line_text.specs.Rules.{same_place_with}
-use Rattle.line_text.proofs.rules.same_place.Given as goal
-
-abbrev pub invariant-loop-a : goal.invariant-loop-a
-invariant-loop-a l = first_some (same_place_with (data_of l.parts)) (numbers_from 0 (length l.parts.tanks.items)) ≡ first_some (same_place_with (data_of l.parts)) (numbers_from l.a (length l.parts.tanks.items))

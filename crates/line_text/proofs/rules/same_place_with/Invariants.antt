@@ -1,8 +1,0 @@
-use Rattle.std.proofs.Common.{◌≡◌, ◌+◌, length}
-use Rattle.hoist_base.specs.PartsData.{data_of}
-use Rattle.line_text.specs.Tables.{first_some, numbers_from}
-use Rattle.line_text.specs.Rules.{same_place_at}
-use Rattle.line_text.proofs.rules.same_place_with.Given as goal
-
-abbrev pub invariant-loop-later : goal.invariant-loop-later
-invariant-loop-later l = first_some (same_place_at (data_of l.parts) l.first) (numbers_from (l.first + 1) (length l.parts.tanks.items)) ≡ first_some (same_place_at (data_of l.parts) l.first) (numbers_from l.later (length l.parts.tanks.items))

@@ -1,8 +1,0 @@
-use Rattle.std.proofs.Common.{◌≡◌, length}
-use Rattle.hoist_base.specs.PartsData.{data_of}
-use Rattle.line_text.specs.Tables.{first_some, numbers_from}
-use Rattle.line_text.specs.Rules.{twice_named_with}
-use Rattle.line_text.proofs.rules.twice_named.Given as goal
-
-abbrev pub invariant-loop-a : goal.invariant-loop-a
-invariant-loop-a l = first_some (twice_named_with (data_of l.parts)) (numbers_from 0 (length l.parts.tanks.items)) ≡ first_some (twice_named_with (data_of l.parts)) (numbers_from l.a (length l.parts.tanks.items))
