@@ -3,16 +3,16 @@ use Rattle.std.proofs.Common.{⊎_elim, inl, inr, ◌⊎◌, ◌≡◌, ℕ, suc
 use Rattle.std.specs.Prelude.{unsigned_abs}
 use Rattle.std.proofs.lemmas.Int.{ints}
 use Rattle.std.proofs.lemmas.Nat.{mul-le, div-mul-add, mod-mul-add, div-add-mod'}
-use Rattle.hoist_base.specs.LineData.{LineData, last_stage, IsMove, IsVisit}
+use Rattle.hoist_base.specs.LineData.{LineData, last_stage, IsMove, IsVisit, visit_at, move_at}
+use Rattle.hoist_base.proofs.NumberLemmas.{move_below, visit_below}
 use Rattle.hoist_base.specs.declared.ids.MoveId.{MoveId}
 use Rattle.hoist_base.specs.declared.ids.VisitId.{VisitId}
 use Rattle.choice_tree.specs.declared.question.Question.{Question}
 use Rattle.choice_tree.specs.declared.question.Question.TheVariants.{Assign, TankOrder, HoistOrder, Choose}
 use Rattle.choice_tree.specs.declared.question.Decision.{Decision}
-use Rattle.period_constraints.specs.Questions.{IsBefore, IsOpenVisit, IsOpenMove}
+use Rattle.path_constraints.specs.Questions.{IsBefore, IsOpenVisit, IsOpenMove}
 use Rattle.period_constraints.specs.Order.{NamesBefore, IsAsked, ComesBefore, IsFirstQuestion}
-use Rattle.period_constraints.specs.Pairs.{Pair, visit_at, move_at, IsOpenVisitAt, IsOpenMoveAt, IsFirstNumber, IsFirstPair, IsAskedTank, IsAskedHoist}
-use Rattle.period_constraints.proofs.ArcLemmas.{node_below}
+use Rattle.period_constraints.specs.Pairs.{Pair, IsOpenVisitAt, IsOpenMoveAt, IsFirstNumber, IsFirstPair, IsAskedTank, IsAskedHoist}
 
 -- ---- numbers and names
 
@@ -47,7 +47,8 @@ visit_named : (l : LineData) (v : VisitId) → IsVisit l v.carrier v.stage → v
 visit_named l v there =
     let m = length l.stages in
     let n = v.carrier * m + v.stage in
-    ap (λ (x : ℕ). the_visit x (n % m)) (div-mul-add v.carrier m v.stage there.1) ∙ ap (λ (y : ℕ). the_visit v.carrier y) (mod-mul-add v.carrier m v.stage there.1)
+    ap (λ (x : ℕ). the_visit x (n % m)) (div-mul-add v.carrier m v.stage there.1) ∙ ap (λ (y : ℕ). the_visit v.carrier y)
+    (mod-mul-add v.carrier m v.stage there.1)
   where
     the_visit : ℕ → ℕ → VisitId
     the_visit x y = record { carrier = x; stage = y }
@@ -56,7 +57,8 @@ move_named : (l : LineData) (m : MoveId) → IsMove l m.carrier m.step → move_
 move_named l m there =
     let n = last_stage l in
     let below : m.step < n = omega (arith, there.1) in
-    ap (λ (x : ℕ). the_move x ((m.carrier * n + m.step) % n)) (div-mul-add m.carrier n m.step below) ∙ ap (λ (y : ℕ). the_move m.carrier y) (mod-mul-add m.carrier n m.step below)
+    ap (λ (x : ℕ). the_move x ((m.carrier * n + m.step) % n)) (div-mul-add m.carrier n m.step below) ∙ ap (λ (y : ℕ). the_move m.carrier y)
+    (mod-mul-add m.carrier n m.step below)
   where
     the_move : ℕ → ℕ → MoveId
     the_move x y = record { carrier = x; step = y }
@@ -69,12 +71,12 @@ step_below l m there = omega (arith, there.1)
 open_visit_at : (l : LineData) (path : List Decision) (v : VisitId) → IsOpenVisit l path v → IsOpenVisitAt l path (v.carrier * length l.stages + v.stage)
 open_visit_at l path v h =
     let P : VisitId → Type 0 = λ w. IsOpenVisit l path w in
-    (node_below v.carrier v.stage l.degree (length l.stages) h.visit.0 h.visit.1, subst P (sym (visit_named l v h.visit)) h)
+    (visit_below l v.carrier v.stage h.visit, subst P (sym (visit_named l v h.visit)) h)
 
 open_move_at : (l : LineData) (path : List Decision) (m : MoveId) → IsOpenMove l path m → IsOpenMoveAt l path (m.carrier * last_stage l + m.step)
 open_move_at l path m h =
     let P : MoveId → Type 0 = λ w. IsOpenMove l path w in
-    (node_below m.carrier m.step l.degree (last_stage l) h.move.0 (step_below l m h.move), subst P (sym (move_named l m h.move)) h)
+    (move_below l m.carrier m.step h.move, subst P (sym (move_named l m h.move)) h)
 
 tank_at : (l : LineData) (path : List Decision) (s : ℕ → ℤ) (period : ℕ) (a b : VisitId) (q : ℤ) → IsAsked l path s period (TankOrder a b q)
     → IsAskedTank l path s period (a.carrier * length l.stages + a.stage) (b.carrier * length l.stages + b.stage) q
@@ -84,7 +86,7 @@ tank_at l path s period a b q h =
     let P2 : VisitId → Type 0 = λ x. IsAsked l path s period (TankOrder (visit_at l (a.carrier * length l.stages + a.stage)) x q) in
     record {
       before = before_numbers a.carrier a.stage b.carrier b.stage (length l.stages) share.first.1 share.before;
-      there = node_below b.carrier b.stage l.degree (length l.stages) share.second.0 share.second.1;
+      there = visit_below l b.carrier b.stage share.second;
       asked = subst P2 (sym (visit_named l b share.second)) (subst P1 (sym (visit_named l a share.first)) h);
     }
 
@@ -96,7 +98,7 @@ hoist_at l path s period a b q h =
     let P2 : MoveId → Type 0 = λ x. IsAsked l path s period (HoistOrder (move_at l (a.carrier * last_stage l + a.step)) x q) in
     record {
       before = before_numbers a.carrier a.step b.carrier b.step (last_stage l) (step_below l a clash.first) clash.before;
-      there = node_below b.carrier b.step l.degree (last_stage l) clash.second.0 (step_below l b clash.second);
+      there = move_below l b.carrier b.step clash.second;
       asked = subst P2 (sym (move_named l b clash.second)) (subst P1 (sym (move_named l a clash.first)) h);
     }
 
@@ -115,7 +117,8 @@ NoHoistOrder l path s period = IsFirstPair (IsAskedHoist l path s period) None
 abbrev pub NoAssign : LineData → List Decision → Type 0
 NoAssign l path = IsFirstNumber (IsOpenMoveAt l path) None
 
-pub first_choice : (l : LineData) (path : List Decision) (s : ℕ → ℤ) (period i : ℕ) (v : VisitId) → v ≡ visit_at l i → IsFirstNumber (IsOpenVisitAt l path) (Some i)
+pub first_choice : (l : LineData) (path : List Decision) (s : ℕ → ℤ) (period i : ℕ) (v : VisitId) → v ≡ visit_at l i
+    → IsFirstNumber (IsOpenVisitAt l path) (Some i)
     → IsFirstQuestion l path s period (Some (Choose v))
 first_choice l path s period i v is first =
     let Q : VisitId → Type 0 = λ w. IsFirstQuestion l path s period (Some (Choose w)) in
@@ -125,7 +128,8 @@ first_choice l path s period i v is first =
     never (Choose w) h before =
         let open_at = open_visit_at l path w h.stands in
         ⊎_elim (λ lt. omega (arith, lt))
-        (λ same. ⊎_elim (λ names. first.1 (w.carrier * length l.stages + w.stage) (name_below w.carrier w.stage i (length l.stages) h.stands.visit.1 names) open_at) (λ later. omega (arith, ints, later.1)) same.1)
+        (λ same. ⊎_elim (λ names. first.1 (w.carrier * length l.stages + w.stage) (name_below w.carrier w.stage i (length l.stages) h.stands.visit.1 names)
+        open_at) (λ later. omega (arith, ints, later.1)) same.1)
         before
     never (TankOrder a b q) h before = ⊎_elim (λ lt. omega (arith, lt)) (λ same. omega (arith, same.0)) before
     never (HoistOrder a b q) h before = ⊎_elim (λ lt. omega (arith, lt)) (λ same. omega (arith, same.0)) before
@@ -150,7 +154,8 @@ first_tank_order l path s period x a b q is_a is_b is_q small none first =
         ⊎_elim
         (λ names.
         first.1 (c.carrier * m + c.stage) (d.carrier * m + d.stage) r
-        (⊎_elim (λ lt. inl lt) (λ rest. inr (rest.0, inl rest.1)) (names_below c.carrier c.stage d.carrier d.stage x.first x.second m h.stands.first.1 h.stands.second.1 names)) asked)
+        (⊎_elim (λ lt. inl lt) (λ rest. inr (rest.0, inl rest.1))
+        (names_below c.carrier c.stage d.carrier d.stage x.first x.second m h.stands.first.1 h.stands.second.1 names)) asked)
         (λ later.
         let e1 : c.carrier ≡ x.first / m = let e = later.0 in cc in
         let e2 : c.stage ≡ x.first % m = let e = later.0 in cc in
@@ -165,7 +170,8 @@ first_tank_order l path s period x a b q is_a is_b is_q small none first =
 
 pub first_hoist_order : (l : LineData) (path : List Decision) (s : ℕ → ℤ) (period : ℕ) (x : Pair) (a b : MoveId) (q : ℤ)
     → a ≡ move_at l x.first → b ≡ move_at l x.second → q ≡ x.shift → unsigned_abs x.shift ≤ 1000000000
-    → NoChoice l path → NoTankOrder l path s period → IsFirstPair (IsAskedHoist l path s period) (Some x) → IsFirstQuestion l path s period (Some (HoistOrder a b q))
+    → NoChoice l path → NoTankOrder l path s period → IsFirstPair (IsAskedHoist l path s period) (Some x)
+    → IsFirstQuestion l path s period (Some (HoistOrder a b q))
 first_hoist_order l path s period x a b q is_a is_b is_q small none no_tank first =
     let Q1 : MoveId → Type 0 = λ w. IsFirstQuestion l path s period (Some (HoistOrder w b q)) in
     let Q2 : MoveId → Type 0 = λ w. IsFirstQuestion l path s period (Some (HoistOrder (move_at l x.first) w q)) in
@@ -174,7 +180,8 @@ first_hoist_order l path s period x a b q is_a is_b is_q small none no_tank firs
   where
     never : (y : Question) → IsAsked l path s period y → ComesBefore y (HoistOrder (move_at l x.first) (move_at l x.second) x.shift) → ⊥
     never (Choose w) h before = none (w.carrier * length l.stages + w.stage) (open_visit_at l path w h.stands)
-    never (TankOrder c d r) h before = no_tank (c.carrier * length l.stages + c.stage) (d.carrier * length l.stages + d.stage) r (tank_at l path s period c d r h)
+    never (TankOrder c d r) h before = no_tank (c.carrier * length l.stages + c.stage) (d.carrier * length l.stages + d.stage) r
+        (tank_at l path s period c d r h)
     never (HoistOrder c d r) h before =
         let m = last_stage l in
         let asked = hoist_at l path s period c d r h in
@@ -205,19 +212,24 @@ first_assign l path s period i m is none no_tank no_hoist first =
   where
     never : (x : Question) → IsAsked l path s period x → ComesBefore x (Assign (move_at l i)) → ⊥
     never (Choose w) h before = none (w.carrier * length l.stages + w.stage) (open_visit_at l path w h.stands)
-    never (TankOrder c d r) h before = no_tank (c.carrier * length l.stages + c.stage) (d.carrier * length l.stages + d.stage) r (tank_at l path s period c d r h)
+    never (TankOrder c d r) h before = no_tank (c.carrier * length l.stages + c.stage) (d.carrier * length l.stages + d.stage) r
+        (tank_at l path s period c d r h)
     never (HoistOrder c d r) h before = no_hoist (c.carrier * last_stage l + c.step) (d.carrier * last_stage l + d.step) r (hoist_at l path s period c d r h)
     never (Assign w) h before =
         let open_at = open_move_at l path w h.stands in
         ⊎_elim (λ lt. omega (arith, lt))
         (λ same.
-        ⊎_elim (λ names. first.1 (w.carrier * last_stage l + w.step) (name_below w.carrier w.step i (last_stage l) (step_below l w h.stands.move) names) open_at)
+        ⊎_elim (λ names. first.1 (w.carrier * last_stage l + w.step) (name_below w.carrier w.step i (last_stage l) (step_below l w h.stands.move) names)
+        open_at)
         (λ later. omega (arith, ints, later.1)) same.1)
         before
 
-pub no_question : (l : LineData) (path : List Decision) (s : ℕ → ℤ) (period : ℕ) → NoChoice l path → NoTankOrder l path s period → NoHoistOrder l path s period → NoAssign l path
+pub no_question : (l : LineData) (path : List Decision) (s : ℕ → ℤ) (period : ℕ) → NoChoice l path → NoTankOrder l path s period → NoHoistOrder l path s period
+    → NoAssign l path
     → IsFirstQuestion l path s period None
 no_question l path s period none no_tank no_hoist no_assign (Choose w) h = none (w.carrier * length l.stages + w.stage) (open_visit_at l path w h.stands)
-no_question l path s period none no_tank no_hoist no_assign (TankOrder c d r) h = no_tank (c.carrier * length l.stages + c.stage) (d.carrier * length l.stages + d.stage) r (tank_at l path s period c d r h)
-no_question l path s period none no_tank no_hoist no_assign (HoistOrder c d r) h = no_hoist (c.carrier * last_stage l + c.step) (d.carrier * last_stage l + d.step) r (hoist_at l path s period c d r h)
+no_question l path s period none no_tank no_hoist no_assign (TankOrder c d r) h = no_tank (c.carrier * length l.stages + c.stage)
+    (d.carrier * length l.stages + d.stage) r (tank_at l path s period c d r h)
+no_question l path s period none no_tank no_hoist no_assign (HoistOrder c d r) h = no_hoist (c.carrier * last_stage l + c.step)
+    (d.carrier * last_stage l + d.step) r (hoist_at l path s period c d r h)
 no_question l path s period none no_tank no_hoist no_assign (Assign w) h = no_assign (w.carrier * last_stage l + w.step) (open_move_at l path w h.stands)

@@ -1,27 +1,10 @@
 -- Pairs of visits and of moves by their numbers, and which of them is asked first.
-use Rattle.std.proofs.Common.{⊎_elim, inl, inr, ◌≡◌, ℕ, suc, ◌+◌, ◌*◌, ◌/◌, ◌%◌, ◌<◌, List, refl, sym, ◌∙◌, ap, subst, arith, ℤ, Some, None}
+use Rattle.std.proofs.Common.{⊎_elim, inl, inr, ◌≡◌, ℕ, suc, ◌+◌, ◌*◌, ◌/◌, ◌%◌, ◌<◌, refl, sym, ◌∙◌, ap, subst, arith, ℤ, Some, None}
 use Rattle.std.specs.Prelude.{Option, IsSome}
 use Rattle.std.proofs.lemmas.Bool.{cases_order}
 use Rattle.std.proofs.lemmas.Nat.{mul-le, div-add-mod', mod_below}
-use Rattle.hoist_base.specs.LineData.{LineData}
-use Rattle.hoist_base.specs.Valid.{IsLine}
-use Rattle.longest_path.specs.declared.systems.Arc.{Arc}
-use Rattle.longest_path.specs.System.{Solves}
-use Rattle.choice_tree.specs.declared.question.Decision.{Decision}
-use Rattle.period_constraints.specs.Constraints.{Keeps, no_arc, arc_of, arcs_of, constraint_list}
-use Rattle.period_constraints.specs.Places.{system_below}
-use Rattle.period_constraints.specs.Questions.{IsBefore}
+use Rattle.path_constraints.specs.Questions.{IsBefore}
 use Rattle.period_constraints.specs.Pairs.{Pair, IsFirstShift, IsFirstPair}
-use Rattle.period_constraints.proofs.NameLemmas.{in_list, in_map, place_in}
-use Rattle.period_constraints.proofs.SpreadLemmas.{KeepsAll}
-
--- ---- ticks that solve the system
-
-pub keeps_all : (l : LineData) (path : List Decision) (s : ℕ → ℤ) (period : ℕ) → IsLine l → Solves (system_below l path) period s → KeepsAll l path s period
-keeps_all l path s period line solves t is =
-    let at = place_in (arcs_of l path) (arc_of l path t) no_arc (in_map (arc_of l path) (constraint_list l path) t (in_list l path t line.limits.stages.0 is)) in
-    let P : Arc → Type 0 = λ a. Keeps s period a in
-    subst P at.2 (solves at.0 at.1)
 
 -- ---- the first shift of what says the same
 
@@ -58,7 +41,8 @@ NoneInRows P i = (k j : ℕ) (q : ℤ) → k < i → P k j q → ⊥
 abbrev pub InRow : (ℕ → ℕ → ℤ → Type 0) → ℕ → ℕ → ℕ → ℤ → Type 0
 InRow P n i j q = (i ≡ n) × P i j q
 
-pub row_found : (P : ℕ → ℕ → ℤ → Type 0) (i j : ℕ) (q q' : ℤ) → q' ≡ q → NoneInRow P i j → IsFirstShift (P i j) (Some q) → IsFirstPair (InRow P i) (Some (record { first = i; second = j; shift = q' }))
+pub row_found : (P : ℕ → ℕ → ℤ → Type 0) (i j : ℕ) (q q' : ℤ) → q' ≡ q → NoneInRow P i j → IsFirstShift (P i j) (Some q)
+    → IsFirstPair (InRow P i) (Some (record { first = i; second = j; shift = q' }))
 row_found P i j q q' is none first =
     let R : ℤ → Type 0 = λ z. IsFirstPair (InRow P i) (Some (record { first = i; second = j; shift = z })) in
     subst R (sym is) (
@@ -75,7 +59,8 @@ row_found P i j q q' is none first =
 
 pub row_more : (P : ℕ → ℕ → ℤ → Type 0) (i j : ℕ) → NoneInRow P i j → ((q : ℤ) → P i j q → ⊥) → NoneInRow P i (j + 1)
 row_more P i j none here k q lt h =
-    ⊎_elim (λ e. here q (let S : ℕ → Type 0 = λ n. P i n q in subst S e h)) (λ rest. ⊎_elim (λ less. none k q less h) (λ more. omega (arith, more, lt)) rest) (cases_order k j)
+    ⊎_elim (λ e. here q (let S : ℕ → Type 0 = λ n. P i n q in subst S e h)) (λ rest. ⊎_elim (λ less. none k q less h) (λ more. omega (arith, more, lt)) rest)
+    (cases_order k j)
 
 pub row_none : (P : ℕ → ℕ → ℤ → Type 0) (i n : ℕ) → ((k j : ℕ) (q : ℤ) → P k j q → j < n) → NoneInRow P i n → (k j : ℕ) (q : ℤ) → InRow P i k j q → ⊥
 row_none P i n within none k j q h =

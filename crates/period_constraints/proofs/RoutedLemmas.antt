@@ -1,47 +1,34 @@
 -- What is asked below a path, from the tanks and the hoists that it settles.
-use Rattle.std.proofs.Common.{⊎_elim, ◌≡◌, ◌≢◌, ℕ, ◌+◌, ◌-◌, ◌*◌, ◌/◌, ◌%◌, ◌<◌, ◌≤◌, List, [], ◌∷◌, length, get_or, refl, sym, ◌∙◌, ap, subst, arith, pos, ℤ, Some, None, Bool, true, cond, eq-eqb}
-use Rattle.std.specs.Prelude.{Option, IsSome, IsSomeAnd, unwrap_or, option_and_then, option_map, ◌<ℤ◌, ◌-ℤ◌, neg_ℤ, ◌==◌, if◌then◌else◌}
+use Rattle.std.proofs.Common.{◌≡◌, ◌≢◌, ℕ, ◌+◌, ◌-◌, ◌*◌, ◌/◌, ◌%◌, ◌<◌, ◌≤◌, List, [], ◌∷◌, length, get_or, refl, sym, ◌∙◌, ap, subst, arith, ℤ, Some, None}
+use Rattle.std.specs.Prelude.{Option, IsSome, IsSomeAnd, unwrap_or, option_and_then, option_map, ◌<ℤ◌, neg_ℤ}
 use Rattle.std.proofs.lemmas.Int.{ints}
-use Rattle.std.proofs.lemmas.Bool.{cases_lt}
-use Rattle.std.proofs.lemmas.Nat.{mul-le, div-add-mod', mod_below, div-mul-add, mod-mul-add}
-use Rattle.hoist_base.specs.LineData.{LineData, stage, last_stage, last_step, move_number, move_count, IsMove, IsVisit}
+use Rattle.std.proofs.lemmas.Nat.{div-add-mod', div-mul-add, mod-mul-add}
+use Rattle.hoist_base.specs.LineData.{LineData, stage, last_stage, last_step, move_number, move_count, IsMove, IsVisit, visit_count, visit_at, move_at}
 use Rattle.hoist_base.specs.Valid.{IsLine}
+use Rattle.hoist_base.proofs.NumberLemmas.{move_there, visit_there, visit_below}
 use Rattle.hoist_base.specs.declared.ids.VisitId.{VisitId}
 use Rattle.line_model.specs.declared.motion.Motion.{Motion}
 use Rattle.longest_path.specs.System.{Solves}
 use Rattle.choice_tree.specs.declared.question.Decision.{Decision}
-use Rattle.period_constraints.specs.Tanks.{choice_of, tanks_by, tank_below, motion_below, low, one_of}
+use Rattle.path_constraints.specs.Tanks.{choice_of, tanks_by, tank_below, motion_below, low, one_of}
 use Rattle.collision_pairs.specs.declared.span.Span.{Span}
-use Rattle.period_constraints.specs.Hoists.{Ride, assigned_of, hoist_by, hoists_by, hoists_reaching, ride_below, clash_below}
-use Rattle.period_constraints.specs.Questions.{FitsPath, offset_of}
-use Rattle.period_constraints.specs.Places.{system_below}
-use Rattle.period_constraints.specs.Pairs.{Pair, IsFirstPair, visit_count, visit_at, move_at, IsOpenVisitAt, IsOpenMoveAt, IsFirstNumber, IsAskedTank, IsAskedHoist}
+use Rattle.path_constraints.specs.declared.rides.Ride.{Ride}
+use Rattle.path_constraints.specs.Hoists.{assigned_of, hoist_by, hoists_by, hoists_reaching, ride_below, clash_below}
+use Rattle.path_constraints.specs.Questions.{FitsPath, offset_of}
+use Rattle.path_constraints.specs.Places.{system_below}
+use Rattle.period_constraints.specs.Pairs.{Pair, IsFirstPair, IsOpenVisitAt, IsOpenMoveAt, IsFirstNumber, IsAskedTank, IsAskedHoist}
 use Rattle.period_constraints.specs.Marks.{AreChoices, AreAssigned, IsOpenByChoices, place_by, HaveTanks, AreChosen}
-use Rattle.period_constraints.specs.Holds.{Moment, begin_of, end_of, tick_of}
+use Rattle.path_constraints.specs.declared.holds.Moment.{Moment}
+use Rattle.path_constraints.specs.Holds.{begin_of, end_of, tick_of}
 use Rattle.period_constraints.specs.Stays.{AreRouted, AreNear, motion_by, lasting}
 use Rattle.period_constraints.specs.Starts.{clash_rides, ride_by}
 use Rattle.period_constraints.specs.Routed.{HoldOneTank, ClashByRides, IsUnassigned}
-use Rattle.period_constraints.proofs.PairLemmas.{keeps_all, numbers_before}
+use Rattle.period_constraints.proofs.PairLemmas.{numbers_before}
 use Rattle.period_constraints.proofs.StayLemmas.{pair_same, number_same}
-use Rattle.period_constraints.proofs.ArcLemmas.{node_below}
-use Rattle.period_constraints.proofs.Settled.{motion_is, low_is}
-use Rattle.period_constraints.proofs.SpreadLemmas.{spread}
-use Rattle.period_constraints.proofs.TankLemmas.{choice_there, tank_there}
-
--- ---- visits and moves by their numbers
-
-div_below : (i d m : ℕ) → 0 < m → i < d * m → i / m < d
-div_below i d m some lt = ⊎_elim (λ less. less) (λ le. absurd (omega (arith, lt, div-add-mod' i m, mul-le d m (i / m) m le (omega arith)))) (cases_lt (i / m) d)
-
-pub visit_there : (l : LineData) (i : ℕ) → IsLine l → i < visit_count l → IsVisit l (visit_at l i).carrier (visit_at l i).stage
-visit_there l i line lt =
-    let some : 0 < length l.stages = omega (arith, line.limits.stages.0) in
-    (div_below i l.degree (length l.stages) some lt, mod_below i (length l.stages) some)
-
-pub move_there : (l : LineData) (i : ℕ) → IsLine l → i < move_count l → IsMove l (move_at l i).carrier (move_at l i).step
-move_there l i line lt =
-    let some : 0 < last_stage l = omega (arith, line.limits.stages.0) in
-    (div_below i l.degree (last_stage l) some lt, omega (arith, mod_below i (last_stage l) some))
+use Rattle.path_constraints.proofs.HoldLemmas.{begin_same, end_same}
+use Rattle.path_constraints.proofs.Settled.{motion_is, low_is}
+use Rattle.path_constraints.proofs.SpreadLemmas.{keeps_all, spread}
+use Rattle.path_constraints.proofs.TankLemmas.{choice_there, tank_there}
 
 -- ---- ticks
 
@@ -59,11 +46,13 @@ all_near l path s period line solves few i lt =
 -- ---- tanks
 
 -- the number of a choice is one of its stage's
-place_there : (l : LineData) (path : List Decision) (c k : ℕ) (o : Option ℕ) → IsLine l → FitsPath l path → IsVisit l c k → o ≡ choice_of path c k → unwrap_or o 0 < length (stage l k).tanks
+place_there : (l : LineData) (path : List Decision) (c k : ℕ) (o : Option ℕ) → IsLine l → FitsPath l path → IsVisit l c k → o ≡ choice_of path c k
+    → unwrap_or o 0 < length (stage l k).tanks
 place_there l path c k None line fits visit is = omega (arith, (line.stages.count k visit.1).0)
 place_there l path c k (Some n) line fits visit is = choice_there l path c k n fits (sym is)
 
-pub have_tanks : (l : LineData) (path : List Decision) (choices : List (Option ℕ)) → IsLine l → FitsPath l path → AreChoices l path choices → HaveTanks l choices
+pub have_tanks : (l : LineData) (path : List Decision) (choices : List (Option ℕ)) → IsLine l → FitsPath l path → AreChoices l path choices
+    → HaveTanks l choices
 have_tanks l path choices line fits h = record {
   room = h.0;
   there = λ i lt. place_there l path (visit_at l i).carrier (visit_at l i).stage (get_or choices i None) line fits (visit_there l i line lt) (h.1 i lt);
@@ -75,10 +64,20 @@ routed l choices tanks line have h = record {
   there = λ i lt. omega (arith, h.each i lt, tank_there l (visit_at l i).stage (place_by choices i) line (have.there i lt));
 }
 
-open_by : (l : LineData) (path : List Decision) (choices : List (Option ℕ)) → IsLine l → AreChoices l path choices → (i : ℕ) → IsOpenByChoices l choices i → IsOpenVisitAt l path i
-open_by l path choices line h i open_at = (open_at.0, record { visit = visit_there l i line open_at.0; several = open_at.1; open_yet = sym (h.1 i open_at.0) ∙ open_at.2 })
+open_by : (l : LineData) (path : List Decision) (choices : List (Option ℕ)) → IsLine l → AreChoices l path choices → (i : ℕ) → IsOpenByChoices l choices i
+    → IsOpenVisitAt l path i
+open_by l path choices line h i open_at = (
+  open_at.0,
+  record {
+    visit = visit_there l i line open_at.0;
+    several = open_at.1;
+    open_yet = sym (h.1 i open_at.0) ∙
+        open_at.2;
+  },
+)
 
-open_at : (l : LineData) (path : List Decision) (choices : List (Option ℕ)) → AreChoices l path choices → (i : ℕ) → IsOpenVisitAt l path i → IsOpenByChoices l choices i
+open_at : (l : LineData) (path : List Decision) (choices : List (Option ℕ)) → AreChoices l path choices → (i : ℕ) → IsOpenVisitAt l path i
+    → IsOpenByChoices l choices i
 open_at l path choices h i x = (x.0, x.1.several, h.1 i x.0 ∙ x.1.open_yet)
 
 one_of_one : (xs : List ℕ) → 0 < length xs → (2 ≤ length xs → ⊥) → one_of xs ≡ Some (get_or xs 0 0)
@@ -86,7 +85,8 @@ one_of_one [] some few = absurd (omega (arith, some))
 one_of_one (x ∷ []) some few = refl
 one_of_one (x ∷ y ∷ ys) some few = absurd (few (omega arith))
 
-one_by : (tanks : List ℕ) (o : Option ℕ) → 0 < length tanks → (2 ≤ length tanks → o ≡ None → ⊥) → one_of (tanks_by tanks o) ≡ Some (get_or tanks (unwrap_or o 0) 0)
+one_by : (tanks : List ℕ) (o : Option ℕ) → 0 < length tanks → (2 ≤ length tanks → o ≡ None → ⊥)
+    → one_of (tanks_by tanks o) ≡ Some (get_or tanks (unwrap_or o 0) 0)
 one_by tanks None some few = one_of_one tanks some (λ many. few many refl)
 one_by tanks (Some n) some few = refl
 
@@ -94,8 +94,10 @@ one_by tanks (Some n) some few = refl
 pub record AreSettled (l : LineData) (path : List Decision) (tanks : List ℕ) : Type 0 where
   pub only : (c k : ℕ) → IsVisit l c k → tank_below l path c k ≡ Some (get_or tanks (c * length l.stages + k) 0)
 
-settled_at : (l : LineData) (path : List Decision) (choices : List (Option ℕ)) (tanks : List ℕ) (i : ℕ) → IsLine l → AreChoices l path choices → AreChosen l choices tanks
-    → IsFirstNumber (IsOpenByChoices l choices) None → i < visit_count l → tank_below l path (visit_at l i).carrier (visit_at l i).stage ≡ Some (get_or tanks i 0)
+settled_at : (l : LineData) (path : List Decision) (choices : List (Option ℕ)) (tanks : List ℕ) (i : ℕ) → IsLine l → AreChoices l path choices
+    → AreChosen l choices tanks
+    → IsFirstNumber (IsOpenByChoices l choices) None → i < visit_count l
+    → tank_below l path (visit_at l i).carrier (visit_at l i).stage ≡ Some (get_or tanks i 0)
 settled_at l path choices tanks i line marks chosen none lt =
     let v = visit_at l i in
     let visit = visit_there l i line lt in
@@ -105,7 +107,8 @@ settled_at l path choices tanks i line marks chosen none lt =
     ∙ one_by ts (get_or choices i None) (omega (arith, (line.stages.count v.stage visit.1).0)) (λ many e. none i (lt, many, e))
     ∙ ap (λ (n : ℕ). Some n) (sym (chosen.each i lt))
 
-pub settled : (l : LineData) (path : List Decision) (choices : List (Option ℕ)) (tanks : List ℕ) → IsLine l → AreChoices l path choices → AreChosen l choices tanks
+pub settled : (l : LineData) (path : List Decision) (choices : List (Option ℕ)) (tanks : List ℕ) → IsLine l → AreChoices l path choices
+    → AreChosen l choices tanks
     → IsFirstNumber (IsOpenByChoices l choices) None → AreSettled l path tanks
 settled l path choices tanks line marks chosen none = record {
   only = λ c k there.
@@ -114,55 +117,34 @@ settled l path choices tanks line marks chosen none = record {
       let e : i / m ≡ c = div-mul-add c m k there.1 in
       let f : i % m ≡ k = mod-mul-add c m k there.1 in
       sym (ap (λ (x : ℕ). tank_below l path x (i % m)) e ∙ ap (λ (y : ℕ). tank_below l path c y) f)
-      ∙ settled_at l path choices tanks i line marks chosen none (node_below c k l.degree m there.0 there.1);
+      ∙ settled_at l path choices tanks i line marks chosen none (visit_below l c k there);
 }
 
 -- ---- durations and motions
 
-pub motion_settled : (l : LineData) (path : List Decision) (tanks : List ℕ) (c k : ℕ) → AreSettled l path tanks → IsMove l c k → motion_below l path c k ≡ Some (motion_by l tanks c k)
+pub motion_settled : (l : LineData) (path : List Decision) (tanks : List ℕ) (c k : ℕ) → AreSettled l path tanks → IsMove l c k
+    → motion_below l path c k ≡ Some (motion_by l tanks c k)
 motion_settled l path tanks c k h move =
     motion_is l path c k (get_or tanks (c * length l.stages + k) 0) (get_or tanks (c * length l.stages + (k + 1)) 0)
     (h.only c k (move.0, omega (arith, move.1))) (h.only c (k + 1) move)
 
-pub low_settled : (l : LineData) (path : List Decision) (tanks : List ℕ) (c k : ℕ) → AreSettled l path tanks → IsMove l c k → low l path c k ≡ lasting l tanks c k
+pub low_settled : (l : LineData) (path : List Decision) (tanks : List ℕ) (c k : ℕ) → AreSettled l path tanks → IsMove l c k
+    → low l path c k ≡ lasting l tanks c k
 low_settled l path tanks c k h move =
     low_is l path c k (get_or tanks (c * length l.stages + k) 0) (get_or tanks (c * length l.stages + (k + 1)) 0)
     (h.only c k (move.0, omega (arith, move.1))) (h.only c (k + 1) move)
 
-begin_same : (l : LineData) (d e : ℕ → ℕ → ℕ) (c k : ℕ) → (0 < k → d c (k - 1) ≡ e c (k - 1)) → begin_of l d c k ≡ begin_of l e c k
-begin_same l d e c k h = ⊎_elim (λ some. ap (λ (n : ℕ). the_begin n) (h some))
-    (λ le.
-    let at : (k == 0) ≡ true = eq-eqb k 0 (omega (arith, le)) in
-    ap (λ (b : Bool). cond b at_load (later (d c (k - 1)))) at ∙ sym (ap (λ (b : Bool). cond b at_load (later (e c (k - 1)))) at))
-    (cases_lt 0 k)
-  where
-    at_load : Moment
-    at_load = record { carrier = c; step = 0; fixed = neg_ℤ (pos l.load) }
-
-    later : ℕ → Moment
-    later n = record { carrier = c; step = k - 1; fixed = pos n -ℤ pos (stage l k).lower }
-
-    the_begin : ℕ → Moment
-    the_begin n = cond (k == 0) at_load (later n)
-
-end_same : (l : LineData) (d e : ℕ → ℕ → ℕ) (c k : ℕ) → d c (last_step l) ≡ e c (last_step l) → end_of l d c k ≡ end_of l e c k
-end_same l d e c k h = ap (λ (n : ℕ). the_end n) h
-  where
-    the_end : ℕ → Moment
-    the_end n =
-        if k == last_stage l
-        then record { carrier = c; step = last_step l; fixed = pos (n + l.unload) }
-        else record { carrier = c; step = k; fixed = pos (stage l k).lift }
-
 pub begin_settled : (l : LineData) (path : List Decision) (tanks : List ℕ) (v : VisitId) → AreSettled l path tanks → IsVisit l v.carrier v.stage
     → begin_of l (low l path) v.carrier v.stage ≡ begin_of l (lasting l tanks) v.carrier v.stage
 begin_settled l path tanks v h visit =
-    begin_same l (low l path) (lasting l tanks) v.carrier v.stage (λ some. low_settled l path tanks v.carrier (v.stage - 1) h (visit.0, omega (arith, visit.1, some)))
+    begin_same l (low l path) (lasting l tanks) v.carrier v.stage
+    (λ some. low_settled l path tanks v.carrier (v.stage - 1) h (visit.0, omega (arith, visit.1, some)))
 
 pub end_settled : (l : LineData) (path : List Decision) (tanks : List ℕ) (v : VisitId) → IsLine l → AreSettled l path tanks → IsVisit l v.carrier v.stage
     → end_of l (low l path) v.carrier v.stage ≡ end_of l (lasting l tanks) v.carrier v.stage
 end_settled l path tanks v line h visit =
-    end_same l (low l path) (lasting l tanks) v.carrier v.stage (low_settled l path tanks v.carrier (last_step l) h (visit.0, omega (arith, line.limits.stages.0)))
+    end_same l (low l path) (lasting l tanks) v.carrier v.stage
+    (low_settled l path tanks v.carrier (last_step l) h (visit.0, omega (arith, line.limits.stages.0)))
 
 -- ---- what is asked
 
@@ -177,7 +159,8 @@ to_asked_tank l path tanks s period i j q line h hold =
     let visit_b = visit_there l j line hold.there in
     let at_a : a.carrier * m + a.stage ≡ i = div-add-mod' i m in
     let at_b : b.carrier * m + b.stage ≡ j = div-add-mod' j m in
-    let tank_a : tank_below l path a.carrier a.stage ≡ Some (get_or tanks i 0) = h.only a.carrier a.stage visit_a ∙ ap (λ (n : ℕ). Some (get_or tanks n 0)) at_a in
+    let tank_a : tank_below l path a.carrier a.stage ≡ Some (get_or tanks i 0) = h.only a.carrier a.stage visit_a ∙ ap (λ (n : ℕ). Some (get_or tanks n 0))
+    at_a in
     let tank_b : tank_below l path b.carrier b.stage ≡ Some (get_or tanks i 0) =
     h.only b.carrier b.stage visit_b ∙ ap (λ (n : ℕ). Some (get_or tanks n 0)) at_b ∙ ap (λ (n : ℕ). Some n) (sym hold.tank) in
     let tick = λ (x : Moment). tick_of l s x in
@@ -217,8 +200,10 @@ from_asked_tank l path tanks s period i j q line h x =
     let visit_b = share.second in
     let at_a : a.carrier * m + a.stage ≡ i = div-add-mod' i m in
     let at_b : b.carrier * m + b.stage ≡ j = div-add-mod' j m in
-    let tank_a : tank_below l path a.carrier a.stage ≡ Some (get_or tanks i 0) = h.only a.carrier a.stage visit_a ∙ ap (λ (n : ℕ). Some (get_or tanks n 0)) at_a in
-    let tank_b : tank_below l path b.carrier b.stage ≡ Some (get_or tanks j 0) = h.only b.carrier b.stage visit_b ∙ ap (λ (n : ℕ). Some (get_or tanks n 0)) at_b in
+    let tank_a : tank_below l path a.carrier a.stage ≡ Some (get_or tanks i 0) = h.only a.carrier a.stage visit_a ∙ ap (λ (n : ℕ). Some (get_or tanks n 0))
+    at_a in
+    let tank_b : tank_below l path b.carrier b.stage ≡ Some (get_or tanks j 0) = h.only b.carrier b.stage visit_b ∙ ap (λ (n : ℕ). Some (get_or tanks n 0))
+    at_b in
     let same : Some (get_or tanks i 0) ≡ Some (get_or tanks j 0) = sym tank_a ∙ share.first_tank ∙ sym share.second_tank ∙ tank_b in
     let tick = λ (y : Moment). tick_of l s y in
     let ba = ap tick (begin_settled l path tanks a h visit_a) in
@@ -240,19 +225,22 @@ tanks_asked l path tanks s period o line h first =
 
 -- ---- rides
 
-ride_settled : (l : LineData) (path : List Decision) (tanks : List ℕ) (assigned : List (Option ℕ)) (i : ℕ) → IsLine l → AreSettled l path tanks → AreAssigned l path assigned → i < move_count l
+ride_settled : (l : LineData) (path : List Decision) (tanks : List ℕ) (assigned : List (Option ℕ)) (i : ℕ) → IsLine l → AreSettled l path tanks
+    → AreAssigned l path assigned → i < move_count l
     → ride_by l tanks (get_or assigned i None) (move_at l i).carrier (move_at l i).step ≡ ride_below l path (move_at l i).carrier (move_at l i).step
 ride_settled l path tanks assigned i line h marks lt =
     let c = (move_at l i).carrier in
     let k = (move_at l i).step in
     let the_ride = λ (a : Option ℕ) (m : Motion). option_map (λ (n : ℕ). the_ride_of m n) (hoist_by (hoists_reaching l m) a) in
     ap (λ (a : Option ℕ). the_ride a (motion_by l tanks c k)) (marks.1 i lt)
-    ∙ sym (ap (λ (o : Option Motion). option_and_then (λ (m : Motion). the_ride (assigned_of path c k) m) o) (motion_settled l path tanks c k h (move_there l i line lt)))
+    ∙ sym (ap (λ (o : Option Motion). option_and_then (λ (m : Motion). the_ride (assigned_of path c k) m) o)
+    (motion_settled l path tanks c k h (move_there l i line lt)))
   where
     the_ride_of : Motion → ℕ → Ride
     the_ride_of m n = record { motion = m; hoist = n }
 
-to_asked_hoist : (l : LineData) (path : List Decision) (tanks : List ℕ) (assigned : List (Option ℕ)) (s : ℕ → ℤ) (period i j : ℕ) (q : ℤ) → IsLine l → AreSettled l path tanks → AreAssigned l path assigned
+to_asked_hoist : (l : LineData) (path : List Decision) (tanks : List ℕ) (assigned : List (Option ℕ)) (s : ℕ → ℤ) (period i j : ℕ) (q : ℤ) → IsLine l
+    → AreSettled l path tanks → AreAssigned l path assigned
     → ClashByRides l tanks assigned s period i j q → IsAskedHoist l path s period i j q
 to_asked_hoist l path tanks assigned s period i j q line h marks x =
     let a = move_at l i in
@@ -260,8 +248,10 @@ to_asked_hoist l path tanks assigned s period i j q line h marks x =
     let o = offset_of l s period a b q in
     let ride_a = ride_settled l path tanks assigned i line h marks (omega (arith, x.before, x.there)) in
     let ride_b = ride_settled l path tanks assigned j line h marks x.there in
-    let P : Option Ride → Type 0 = λ r. IsSomeAnd (clash_rides l r (ride_by l tanks (get_or assigned j None) b.carrier b.step)) (λ span. (neg_ℤ span.before <ℤ o) × (o <ℤ span.after)) in
-    let Q : Option Ride → Type 0 = λ r. IsSomeAnd (clash_rides l (ride_below l path a.carrier a.step) r) (λ span. (neg_ℤ span.before <ℤ o) × (o <ℤ span.after)) in
+    let P : Option Ride → Type 0 = λ r. IsSomeAnd (clash_rides l r (ride_by l tanks (get_or assigned j None) b.carrier b.step))
+    (λ span. (neg_ℤ span.before <ℤ o) × (o <ℤ span.after)) in
+    let Q : Option Ride → Type 0 = λ r. IsSomeAnd (clash_rides l (ride_below l path a.carrier a.step) r)
+    (λ span. (neg_ℤ span.before <ℤ o) × (o <ℤ span.after)) in
     let fails : Q (ride_below l path b.carrier b.step) = subst Q ride_b (subst P ride_a x.clash) in
     record {
       before = x.before;
@@ -281,7 +271,8 @@ to_asked_hoist l path tanks assigned s period i j q line h marks x =
     some_if None R r = absurd r
     some_if (Some z) R r = refl
 
-from_asked_hoist : (l : LineData) (path : List Decision) (tanks : List ℕ) (assigned : List (Option ℕ)) (s : ℕ → ℤ) (period i j : ℕ) (q : ℤ) → IsLine l → AreSettled l path tanks → AreAssigned l path assigned
+from_asked_hoist : (l : LineData) (path : List Decision) (tanks : List ℕ) (assigned : List (Option ℕ)) (s : ℕ → ℤ) (period i j : ℕ) (q : ℤ) → IsLine l
+    → AreSettled l path tanks → AreAssigned l path assigned
     → IsAskedHoist l path s period i j q → ClashByRides l tanks assigned s period i j q
 from_asked_hoist l path tanks assigned s period i j q line h marks x =
     let a = move_at l i in
@@ -289,28 +280,41 @@ from_asked_hoist l path tanks assigned s period i j q line h marks x =
     let o = offset_of l s period a b q in
     let ride_a = ride_settled l path tanks assigned i line h marks (omega (arith, x.before, x.there)) in
     let ride_b = ride_settled l path tanks assigned j line h marks x.there in
-    let P : Option Ride → Type 0 = λ r. IsSomeAnd (clash_rides l r (ride_by l tanks (get_or assigned j None) b.carrier b.step)) (λ span. (neg_ℤ span.before <ℤ o) × (o <ℤ span.after)) in
-    let Q : Option Ride → Type 0 = λ r. IsSomeAnd (clash_rides l (ride_below l path a.carrier a.step) r) (λ span. (neg_ℤ span.before <ℤ o) × (o <ℤ span.after)) in
+    let P : Option Ride → Type 0 = λ r. IsSomeAnd (clash_rides l r (ride_by l tanks (get_or assigned j None) b.carrier b.step))
+    (λ span. (neg_ℤ span.before <ℤ o) × (o <ℤ span.after)) in
+    let Q : Option Ride → Type 0 = λ r. IsSomeAnd (clash_rides l (ride_below l path a.carrier a.step) r)
+    (λ span. (neg_ℤ span.before <ℤ o) × (o <ℤ span.after)) in
     let fails : Q (ride_below l path b.carrier b.step) = x.asked.fails in
     record { before = x.before; there = x.there; clash = subst P (sym ride_a) (subst Q (sym ride_b) fails) }
 
-pub hoists_asked : (l : LineData) (path : List Decision) (tanks : List ℕ) (assigned : List (Option ℕ)) (s : ℕ → ℤ) (period : ℕ) (o : Option Pair) → IsLine l → AreSettled l path tanks → AreAssigned l path assigned
+pub hoists_asked : (l : LineData) (path : List Decision) (tanks : List ℕ) (assigned : List (Option ℕ)) (s : ℕ → ℤ) (period : ℕ) (o : Option Pair) → IsLine l
+    → AreSettled l path tanks → AreAssigned l path assigned
     → IsFirstPair (ClashByRides l tanks assigned s period) o → IsFirstPair (IsAskedHoist l path s period) o
 hoists_asked l path tanks assigned s period o line h marks first =
-    pair_same (ClashByRides l tanks assigned s period) (IsAskedHoist l path s period) o (λ i j q x. to_asked_hoist l path tanks assigned s period i j q line h marks x)
+    pair_same (ClashByRides l tanks assigned s period) (IsAskedHoist l path s period) o
+    (λ i j q x. to_asked_hoist l path tanks assigned s period i j q line h marks x)
     (λ i j q x. from_asked_hoist l path tanks assigned s period i j q line h marks x) first
 
 -- ---- moves without a hoist
 
-pub moves_asked : (l : LineData) (path : List Decision) (tanks : List ℕ) (assigned : List (Option ℕ)) (o : Option ℕ) → IsLine l → AreSettled l path tanks → AreAssigned l path assigned
+pub moves_asked : (l : LineData) (path : List Decision) (tanks : List ℕ) (assigned : List (Option ℕ)) (o : Option ℕ) → IsLine l → AreSettled l path tanks
+    → AreAssigned l path assigned
     → IsFirstNumber (IsUnassigned l tanks assigned) o → IsFirstNumber (IsOpenMoveAt l path) o
 moves_asked l path tanks assigned o line h marks first =
     number_same (IsUnassigned l tanks assigned) (IsOpenMoveAt l path) o
     (λ i x.
     let m = move_at l i in
     let is = motion_settled l path tanks m.carrier m.step h (move_there l i line x.there) in
-    let P : Option Motion → Type 0 = λ y. length (hoists_by l y) ≢ 1 in
-    (x.there, record { move = move_there l i line x.there; motion = rw is refl; open_yet = sym (marks.1 i x.there) ∙ x.none; several = subst P (sym is) x.several }))
+    let P : Option Motion → Type 0 = λ y. length (hoists_by l y) ≢ 1 in (
+      x.there,
+      record {
+        move = move_there l i line x.there;
+        motion = rw is refl;
+        open_yet = sym (marks.1 i x.there) ∙ x.none;
+        several = subst P (sym is)
+            x.several;
+      },
+    ))
     (λ i x.
     let m = move_at l i in
     let is = motion_settled l path tanks m.carrier m.step h (move_there l i line x.0) in

@@ -1,11 +1,11 @@
 -- Multiples of the period between two numbers.
 use Rattle.std.proofs.Common.{◌≡◌, ℕ, zero, suc, ◌+◌, ◌*◌, ◌/◌, ◌<◌, ◌≤◌, refl, ◌∙◌, ap, arith, pos, ℤ}
-use Rattle.std.specs.Prelude.{◌+ℤ◌, ◌-ℤ◌, ◌*ℤ◌, ◌≤ℤ◌, ◌<ℤ◌, neg_ℤ, negsuc, unsigned_abs}
+use Rattle.std.specs.Prelude.{◌+ℤ◌, ◌*ℤ◌, ◌≤ℤ◌, ◌<ℤ◌, neg_ℤ, negsuc, unsigned_abs}
 use Rattle.std.specs.Int.{int_div_euclid}
 use Rattle.std.proofs.lemmas.Int.{ints, by_lt_z}
 use Rattle.std.proofs.Math.Nat.{div-le_self}
 use Rattle.std.proofs.lemmas.Nat.{div-add-mod', mod_below}
-use Rattle.longest_path.proofs.Cycles.{times_add}
+use Rattle.list_facts.proofs.Products.{times_add, times_mono}
 use Rattle.period_constraints.specs.Pairs.{IsNextShift, IsBetween}
 
 pos_times : (d t : ℕ) → pos d *ℤ pos t ≡ pos (d * t)
@@ -14,12 +14,6 @@ pos_times d t = refl
 neg_times : (d t : ℕ) → neg_ℤ (pos d) *ℤ pos t ≡ neg_ℤ (pos (d * t))
 neg_times zero t = omega (arith, ints)
 neg_times (suc d) t = omega (arith, ints)
-
-pub times_mono : (a b : ℤ) (t : ℕ) → a ≤ℤ b → (a *ℤ pos t) ≤ℤ (b *ℤ pos t)
-times_mono a b t le =
-    let m = unsigned_abs (b -ℤ a) in
-    let e : b ≡ a +ℤ pos m = omega (arith, ints, le) in
-    omega (arith, ints, ap (λ (z : ℤ). z *ℤ pos t) e, times_add a (pos m) t, pos_times m t)
 
 -- the first multiple above a number
 pub next_multiple : (x : ℤ) (t : ℕ) (q : ℤ) → 0 < t → q ≡ int_div_euclid x (pos t) +ℤ pos 1 → IsNextShift x t q

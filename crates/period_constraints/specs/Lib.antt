@@ -1,10 +1,13 @@
-pub mod Tanks
-pub mod Hoists
-pub mod Holds
-pub mod Places
-pub mod Ticks
-pub mod Constraints
-pub mod Questions
+pub use Rattle.path_constraints.specs.Tanks
+pub use Rattle.path_constraints.specs.Hoists
+pub use Rattle.path_constraints.specs.Holds
+pub use Rattle.path_constraints.specs.Places
+pub use Rattle.path_constraints.specs.Ticks
+pub use Rattle.path_constraints.specs.Constraints
+pub use Rattle.path_constraints.specs.Questions
+pub use Rattle.path_constraints.specs.Meets
+pub use Rattle.path_constraints.specs.Proves
+pub use Rattle.path_constraints.specs.Laws
 pub mod Order
 pub mod Pairs
 pub mod Marks
@@ -12,6 +15,3 @@ pub mod Stays
 pub mod Starts
 pub mod Routed
 pub mod Lookups
-pub mod Meets
-pub mod Proves
-pub mod Laws

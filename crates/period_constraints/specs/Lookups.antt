@@ -1,29 +1,20 @@
 -- What is reckoned once for a line: the rides of its steps and their clashes.
 use Rattle.std.specs.Prelude.{◌≡◌, ℕ, ◌/◌, ◌%◌, ◌<◌, ◌≤◌, List, length, get_or, Option, None, IfSome}
-use Rattle.hoist_base.specs.LineData.{LineData, move_count}
+use Rattle.hoist_base.specs.LineData.{LineData}
 use Rattle.collision_pairs.specs.declared.span.Span.{Span}
 use Rattle.collision_pairs.specs.Clash.{IsTight}
-use Rattle.period_constraints.specs.Hoists.{Ride, clash_between}
-use Rattle.period_constraints.specs.Pairs.{visit_count}
+use Rattle.path_constraints.specs.declared.rides.Ride.{Ride}
+use Rattle.path_constraints.specs.Hoists.{clash_between}
 use Rattle.period_constraints.specs.Starts.{IsRide, ride_in, IsTable}
 
--- rides, the clash of each with each, row by row, and for how many visits and moves there is room
+-- rides, and the clash of each with each, row by row
 pub record LookupData : Type 0 where
   pub rides : List Ride
   pub spans : List (Option Span)
-  pub visits : ℕ
-  pub moves : ℕ
 
 -- they are those of the line
-pub record IsLookupOf (l : LineData) (x : LookupData) : Type 0 where
-  pub table : IsTable l x.rides x.spans
-  pub visits : x.visits ≡ visit_count l
-  pub moves : x.moves ≡ move_count l
-
--- as many tanks as choices, one for each visit, and as many starts as assigned hoists, one for each move
-pub record HasRoom (choices assigned tanks starts : ℕ) : Type 0 where
-  pub each_tank : tanks ≡ choices
-  pub each_start : starts ≡ assigned
+abbrev pub IsLookupOf : LineData → LookupData → Type 0
+IsLookupOf l x = IsTable l x.rides x.spans
 
 -- rides of the line, and not too many for a table
 pub record AreRides (l : LineData) (rides : List Ride) : Type 0 where

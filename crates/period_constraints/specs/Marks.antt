@@ -1,10 +1,9 @@
 -- The choices on a path by the numbers of the visits and of the moves.
 use Rattle.std.specs.Prelude.{◌≡◌, ℕ, ◌<◌, ◌≤◌, List, length, get_or, unwrap_or, Option, None}
-use Rattle.hoist_base.specs.LineData.{LineData, stage, move_count}
+use Rattle.hoist_base.specs.LineData.{LineData, stage, move_count, visit_count, visit_at, move_at}
 use Rattle.choice_tree.specs.declared.question.Decision.{Decision}
-use Rattle.period_constraints.specs.Tanks.{choice_of}
-use Rattle.period_constraints.specs.Hoists.{assigned_of}
-use Rattle.period_constraints.specs.Pairs.{visit_count, visit_at, move_at}
+use Rattle.path_constraints.specs.Tanks.{choice_of}
+use Rattle.path_constraints.specs.Hoists.{assigned_of}
 
 -- for each visit which tank of its stage it has by its Choose
 abbrev pub AreChoices : LineData → List Decision → List (Option ℕ) → Type 0

@@ -4,7 +4,7 @@ use Rattle.hoist_base.specs.LineData.{LineData}
 use Rattle.choice_tree.specs.declared.question.Question.{Question}
 use Rattle.choice_tree.specs.declared.question.Question.TheVariants.{Assign, TankOrder, HoistOrder, Choose}
 use Rattle.choice_tree.specs.declared.question.Decision.{Decision}
-use Rattle.period_constraints.specs.Questions.{Stands, Fits, Fails, shift_of}
+use Rattle.path_constraints.specs.Questions.{Stands, Fits, Fails, shift_of}
 
 -- tanks are chosen first, then the orders of visits and of moves, and hoists last
 abbrev pub kind_of : Question → ℕ

@@ -1,24 +1,12 @@
 -- Visits and moves by their numbers, and the first pair of them that is asked.
-use Rattle.std.specs.Prelude.{◌≡◌, ℕ, ◌*◌, ◌/◌, ◌%◌, ◌<◌, ◌⊎◌, List, length, Option, Some, None, ℤ, pos, ◌<ℤ◌, ◌≤ℤ◌, ◌+ℤ◌, ◌*ℤ◌}
-use Rattle.hoist_base.specs.LineData.{LineData, last_stage, move_count}
-use Rattle.hoist_base.specs.declared.ids.MoveId.{MoveId}
-use Rattle.hoist_base.specs.declared.ids.VisitId.{VisitId}
+use Rattle.std.specs.Prelude.{◌≡◌, ℕ, ◌<◌, ◌⊎◌, List, Option, Some, None, ℤ, pos, ◌<ℤ◌, ◌≤ℤ◌, ◌+ℤ◌, ◌*ℤ◌}
+use Rattle.hoist_base.specs.LineData.{LineData, visit_count, visit_at, move_count, move_at}
 use Rattle.choice_tree.specs.declared.question.Question.{Question}
 use Rattle.choice_tree.specs.declared.question.Question.TheVariants.{TankOrder, HoistOrder}
 use Rattle.choice_tree.specs.declared.question.Decision.{Decision}
 pub use Rattle.period_constraints.specs.declared.pairs.Pair.{Pair}
-use Rattle.period_constraints.specs.Questions.{IsOpenVisit, IsOpenMove}
+use Rattle.path_constraints.specs.Questions.{IsOpenVisit, IsOpenMove}
 use Rattle.period_constraints.specs.Order.{IsAsked}
-
--- visits and moves are numbered by carrier, then by stage or step
-abbrev pub visit_count : LineData → ℕ
-visit_count l = l.degree * length l.stages
-
-abbrev pub visit_at : LineData → ℕ → VisitId
-visit_at l i = record { carrier = i / length l.stages; stage = i % length l.stages }
-
-abbrev pub move_at : LineData → ℕ → MoveId
-move_at l i = record { carrier = i / last_stage l; step = i % last_stage l }
 
 -- visit or move i is open to a choice of its tank or of its hoist
 abbrev pub IsOpenVisitAt : LineData → List Decision → ℕ → Type 0

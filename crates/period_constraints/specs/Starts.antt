@@ -1,12 +1,13 @@
 -- Moves with their rides and the ticks of their starts, from the tick of move 0 on, and a table of the clashes of rides.
 use Rattle.std.specs.Prelude.{◌≡◌, ℕ, ◌+◌, ◌*◌, ◌<◌, ◌≤◌, List, length, get_or, Option, Some, None, IsSomeAnd, IfSome, option_and_then, option_map, ℤ, pos, ◌+ℤ◌, ◌-ℤ◌, unsigned_abs}
-use Rattle.hoist_base.specs.LineData.{LineData, move_count}
+use Rattle.hoist_base.specs.LineData.{LineData, move_count, move_at}
 use Rattle.line_model.specs.Motion.{IsMotion}
 use Rattle.collision_pairs.specs.declared.span.Span.{Span}
 use Rattle.collision_pairs.specs.Clash.{IsTight}
 pub use Rattle.period_constraints.specs.declared.starts.Start.{Start}
-use Rattle.period_constraints.specs.Hoists.{Ride, hoist_by, hoists_reaching, clash_between}
-use Rattle.period_constraints.specs.Pairs.{move_at, IsBetween}
+use Rattle.path_constraints.specs.declared.rides.Ride.{Ride}
+use Rattle.path_constraints.specs.Hoists.{hoist_by, hoists_reaching, clash_between}
+use Rattle.period_constraints.specs.Pairs.{IsBetween}
 use Rattle.period_constraints.specs.Stays.{motion_by}
 
 -- a ride of the line

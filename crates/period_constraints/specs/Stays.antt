@@ -1,11 +1,10 @@
 -- Visits and moves whose tanks are settled, with their ticks from the tick of move 0 on.
-use Rattle.std.specs.Prelude.{◌≡◌, ℕ, ◌+◌, ◌*◌, ◌<◌, ◌≤◌, List, length, get_or, ℤ, ◌-ℤ◌, unsigned_abs}
-use Rattle.hoist_base.specs.LineData.{LineData, move_count}
+use Rattle.std.specs.Prelude.{◌≡◌, ℕ, ◌+◌, ◌<◌, ◌≤◌, List, length, get_or, ℤ, ◌-ℤ◌, unsigned_abs}
+use Rattle.hoist_base.specs.LineData.{LineData, move_count, visit_number, visit_count, visit_at}
 use Rattle.line_model.specs.declared.motion.Motion.{Motion}
 use Rattle.line_model.specs.Motion.{duration, motion_between}
 pub use Rattle.period_constraints.specs.declared.stays.Stay.{Stay}
-use Rattle.period_constraints.specs.Holds.{begin_of, end_of, tick_of}
-use Rattle.period_constraints.specs.Pairs.{visit_count, visit_at}
+use Rattle.path_constraints.specs.Holds.{begin_of, end_of, tick_of}
 
 -- the tank of each visit, by the visits' numbers: each is one of the line
 pub record AreRouted (l : LineData) (tanks : List ℕ) : Type 0 where
@@ -15,7 +14,7 @@ pub record AreRouted (l : LineData) (tanks : List ℕ) : Type 0 where
 -- the motion of move (c, k) between these tanks, and how long it lasts
 abbrev pub motion_by : LineData → List ℕ → ℕ → ℕ → Motion
 motion_by l tanks c k =
-    motion_between l k (get_or tanks (c * length l.stages + k) 0) (get_or tanks (c * length l.stages + (k + 1)) 0)
+    motion_between l k (get_or tanks (visit_number l c k) 0) (get_or tanks (visit_number l c (k + 1)) 0)
 
 abbrev pub lasting : LineData → List ℕ → ℕ → ℕ → ℕ
 lasting l tanks c k = duration (motion_by l tanks c k)

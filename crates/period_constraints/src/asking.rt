@@ -1,26 +1,48 @@
 // Which question is asked first.
-ghost use Rattle.std.specs.Prelude.{◌≡◌, ◌≢◌, ◌≤◌, ◌<◌, ◌↔◌, length, unsigned_abs, None, IsTrue, IfSome};
+ghost use Rattle.std.specs.Prelude.{◌≡◌, ◌≢◌, ◌≤◌, ◌↔◌, length, unsigned_abs, None, IsTrue, IfSome};
 ghost use Rattle.hoist_base.specs.LineData.{IsMove, move_count};
+ghost use Rattle.longest_path.specs.Bounds.{IsPeriod};
 ghost use Rattle.longest_path.specs.System.{Solves};
-ghost use Rattle.period_constraints.specs.Questions.{FitsPath};
+ghost use Rattle.path_constraints.specs.Questions.{FitsPath};
+ghost use Rattle.path_constraints.specs.Hoists.{hoists_reaching};
+ghost use Rattle.path_constraints.specs.Places.{system_below};
+ghost use Rattle.path_constraints.specs.Ticks.{AreTicks, tick_at};
 ghost use Rattle.period_constraints.specs.Order.{IsFirstQuestion};
-ghost use Rattle.period_constraints.specs.Hoists.{hoists_reaching};
 ghost use Rattle.period_constraints.specs.Pairs.{IsFirstNumber, IsFirstPair};
-ghost use Rattle.period_constraints.specs.Pairs as pairs;
 ghost use Rattle.period_constraints.specs.Stays.{AreRouted, AreNear};
 ghost use Rattle.period_constraints.specs.Stays as stays;
 ghost use Rattle.period_constraints.specs.Starts.{IsTable};
 ghost use Rattle.period_constraints.specs.Routed.{ClashByRides, IsUnassigned};
-ghost use Rattle.period_constraints.specs.Places.{system_below};
-ghost use Rattle.period_constraints.specs.Ticks.{AreTicks, tick_at};
 
 use crate::marks::{first_open_visit, mark, write_tanks};
-use crate::pairs::{Pair, move_at, move_count as count_of_moves, visit_at, visit_count};
-use crate::rides::reaching_count;
+use crate::pairs::Pair;
 use crate::starts::{Start, Table, first_meeting, write_starts};
 use crate::stays::{first_tank_pair, motion_by};
 use choice_tree::{Decision, Question};
 use hoist_base::{Line, MoveId};
+use path_constraints::reaching_count;
+
+/// Room for what a question is sought by: a place for each visit or each move of any line. What stands in it means
+/// nothing between two calls.
+#[derive(Drop)]
+pub(crate) struct Room {
+    choices: [Option<u32>; 128],
+    assigned: [Option<u32>; 124],
+    tanks: [u32; 128],
+    starts: [Start; 124],
+}
+
+impl Room {
+    /// Nothing is noted in it.
+    pub(crate) fn new() -> Room {
+        Room {
+            choices: [None; 128],
+            assigned: [None; 124],
+            tanks: [0; 128],
+            starts: [Start::NONE; 124],
+        }
+    }
+}
 
 // The first two moves that clash; their starts are written into their places.
 fn first_hoist_pair(
@@ -37,12 +59,11 @@ fn first_hoist_pair(
     requires assigned { move_count line.now ≤ length assigned.now }
     requires ticks { AreTicks line.now ticks.now }
     requires near { AreNear line.now (tick_at ticks.now) }
-    requires period { (1 ≤ period) × (period ≤ 20001) }
+    requires period { IsPeriod period }
     requires room { length starts.old ≡ move_count line.now }
     ensures first { IsFirstPair (ClashByRides line.now tanks.now assigned.now (tick_at ticks.now) period) result }
     ensures small { IfSome result (λ x. unsigned_abs x.shift ≤ 1000000000) }
 {
-    let _count = count_of_moves(line);
     write_starts(line, table, tanks, assigned, ticks, starts);
     first_meeting(line, table, starts, period)
 }
@@ -62,13 +83,8 @@ fn first_unassigned(line: &Line, tanks: &[u32], assigned: &[Option<u32>]) -> Opt
     requires assigned { move_count line.now ≤ length assigned.now }
     ensures { IsFirstNumber (IsUnassigned line.now tanks.now assigned.now) result }
 {
-    for number in 0..count_of_moves(line) {
-        if is_unassigned(
-            line,
-            tanks,
-            assigned[number as usize],
-            move_at(line, number),
-        ) {
+    for number in 0..line.move_count() {
+        if is_unassigned(line, tanks, assigned[number as usize], line.move_at(number)) {
             return Some(number);
         }
     }
@@ -76,53 +92,56 @@ fn first_unassigned(line: &Line, tanks: &[u32], assigned: &[Option<u32>]) -> Opt
 }
 
 /// The first question that is to be asked below the path; the clashes are those of the table where it has the rides.
-///
-/// The last four are room: a place for each visit or each move. It doesn't matter what stands in it.
 pub(crate) fn ask(
     line: &Line,
     table: Table,
     path: &[Decision],
     ticks: &[i64],
     period: u32,
-    choices: &mut [Option<u32>],
-    assigned: &mut [Option<u32>],
-    tanks: &mut [u32],
-    starts: &mut [Start],
+    room: &mut Room,
 ) -> Option<Question>
     requires table { IsTable line.now table.rides.now table.spans.now }
     requires fits { FitsPath line.now path.now }
-    requires period { (1 ≤ period) × (period ≤ 20001) }
+    requires period { IsPeriod period }
     requires ticks { AreTicks line.now ticks.now }
     requires solves { Solves (system_below line.now path.now) period (tick_at ticks.now) }
-    requires marks { (length choices.old ≡ pairs.visit_count line.now) × (length assigned.old ≡ move_count line.now) }
-    requires room { (length tanks.old ≡ pairs.visit_count line.now) × (length starts.old ≡ move_count line.now) }
     ensures first { IsFirstQuestion line.now path.now (tick_at ticks.now) period result }
 {
-    let _inner = line.inner();
-    mark(line, path, choices, assigned);
-    if let Some(number) = first_open_visit(line, choices) {
+    let moves = line.move_count() as usize;
+    mark(line, path, &mut room.choices, &mut room.assigned);
+    if let Some(number) = first_open_visit(line, &room.choices) {
         return Some(Question::Choose {
-            v: visit_at(line, number),
+            v: line.visit_at(number),
         });
     }
-    write_tanks(line, choices, tanks);
+    write_tanks(line, &room.choices, &mut room.tanks);
+    let tanks = &room.tanks;
+    let starts = &mut room.starts[..];
     if let Some(pair) = first_tank_pair(line, tanks, ticks, period) {
         return Some(Question::TankOrder {
-            a: visit_at(line, pair.first),
-            b: visit_at(line, pair.second),
+            a: line.visit_at(pair.first),
+            b: line.visit_at(pair.second),
             q: pair.shift,
         });
     }
-    if let Some(pair) = first_hoist_pair(line, table, tanks, assigned, ticks, period, starts) {
+    if let Some(pair) = first_hoist_pair(
+        line,
+        table,
+        tanks,
+        &room.assigned,
+        ticks,
+        period,
+        &mut starts[..moves],
+    ) {
         return Some(Question::HoistOrder {
-            a: move_at(line, pair.first),
-            b: move_at(line, pair.second),
+            a: line.move_at(pair.first),
+            b: line.move_at(pair.second),
             q: pair.shift,
         });
     }
-    if let Some(number) = first_unassigned(line, tanks, assigned) {
+    if let Some(number) = first_unassigned(line, tanks, &room.assigned) {
         return Some(Question::Assign {
-            m: move_at(line, number),
+            m: line.move_at(number),
         });
     }
     None
@@ -140,7 +159,7 @@ pub fn first_question(
     period: u32,
 ) -> Option<Question>
     requires fits { FitsPath line.now path.now }
-    requires period { (1 ≤ period) × (period ≤ 20001) }
+    requires period { IsPeriod period }
     requires ticks { AreTicks line.now ticks.now }
     requires solves { Solves (system_below line.now path.now) period (tick_at ticks.now) }
     ensures first { IsFirstQuestion line.now path.now (tick_at ticks.now) period result }
@@ -150,21 +169,5 @@ pub fn first_question(
         firsts: &[],
         spans: &[],
     };
-    let visits = visit_count(line) as usize;
-    let moves = count_of_moves(line) as usize;
-    let mut choices = [None; 128];
-    let mut assigned = [None; 124];
-    let mut tanks = [0; 128];
-    let mut starts = [Start::NONE; 124];
-    ask(
-        line,
-        table,
-        path,
-        ticks,
-        period,
-        &mut choices[..visits],
-        &mut assigned[..moves],
-        &mut tanks[..visits],
-        &mut starts[..moves],
-    )
+    ask(line, table, path, ticks, period, &mut Room::new())
 }

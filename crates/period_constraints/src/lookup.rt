@@ -3,49 +3,42 @@ ghost use Rattle.std.specs.Prelude.{◌≡◌, ℕ, ◌*◌, ◌≤◌, ◌<◌,
 ghost use Rattle.hoist_base.specs.LineData.{IsStep, IsStageOf};
 ghost use Rattle.hoist_base.specs.Valid.{IsLine};
 ghost use Rattle.line_model.specs.Motion.{IsMotion};
+ghost use Rattle.longest_path.specs.Bounds.{IsPeriod};
 ghost use Rattle.longest_path.specs.System.{Solves};
-ghost use Rattle.period_constraints.specs.Questions.{FitsPath};
+ghost use Rattle.path_constraints.specs.Questions.{FitsPath};
+ghost use Rattle.path_constraints.specs.Places.{system_below};
+ghost use Rattle.path_constraints.specs.Ticks.{AreTicks, tick_at};
 ghost use Rattle.period_constraints.specs.Order.{IsFirstQuestion};
-ghost use Rattle.period_constraints.specs.Places.{system_below};
-ghost use Rattle.period_constraints.specs.Ticks.{AreTicks, tick_at};
 ghost use Rattle.period_constraints.specs.Lookups.{AreRides, AreSpans, IsLookupOf};
 
-use crate::asking::ask;
-use crate::pairs::{move_count as count_of_moves, visit_count};
-use crate::rides::Ride;
-use crate::starts::{Start, Table};
-use crate::times::motion_between;
+use crate::asking::{Room, ask};
+use crate::starts::Table;
 use choice_tree::{Decision, Question};
 use collision_pairs::{Span, clash};
 use hoist_base::Line;
 use move_list::{Motion, reaches};
+use path_constraints::{Ride, motion_between};
 use std::alloc::{AllocError, Global};
 use std::marker::Model;
 
 /// The rides of a line's steps and the clash of each with each, reckoned once.
 ///
 /// It holds at most 256 rides; the clashes of others are reckoned where they are asked for. It has room for what a question
-/// is sought by, a place for each visit or each move of the line: what stands there means nothing between two calls.
+/// is sought by, so that each question is found without taking memory.
 #[derive(Drop)]
 pub struct Lookup {
     rides: Vec<Ride>,
     firsts: Vec<u32>,
     spans: Vec<Option<Span>>,
-    choices: Vec<Option<u32>>,
-    assigned: Vec<Option<u32>>,
-    tanks: Vec<u32>,
-    starts: Vec<Start>,
+    room: Room,
 }
 
 impl Model for Lookup {
-    ghost use Rattle.std.specs.Prelude.{length};
-    ghost use Rattle.period_constraints.specs.Lookups.{LookupData, HasRoom};
+    ghost use Rattle.period_constraints.specs.Lookups.{LookupData};
 
     ghost Value = { LookupData };
 
-    ghost view = { λ a. record { rides = a.rides.items; spans = a.spans.items; visits = length a.choices.items; moves = length a.assigned.items } };
-
-    ghost invariant = { λ a. HasRoom (length a.choices.items) (length a.assigned.items) (length a.tanks.items) (length a.starts.items) };
+    ghost view = { λ a. record { rides = a.rides.items; spans = a.spans.items } };
 }
 
 // Adds the rides of a motion: one for each hoist that reaches it, the lowest first, as far as there is room.
@@ -116,20 +109,11 @@ impl Lookup {
         }
         let mut spans = Vec::new(alloc);
         push_spans(&mut spans, line, rides.as_slice())?;
-        let visits = visit_count(line) as usize;
-        let moves = count_of_moves(line) as usize;
-        let choices = vec![in alloc; None; visits]?;
-        let assigned = vec![in alloc; None; moves]?;
-        let tanks = vec![in alloc; 0; visits]?;
-        let starts = vec![in alloc; Start::NONE; moves]?;
         Ok(Lookup {
             rides,
             firsts,
             spans,
-            choices,
-            assigned,
-            tanks,
-            starts,
+            room: Room::new(),
         })
     }
 
@@ -143,7 +127,7 @@ impl Lookup {
     ) -> Option<Question>
         requires line { IsLookupOf line.now self.old }
         requires fits { FitsPath line.now path.now }
-        requires period { (1 ≤ period) × (period ≤ 20001) }
+        requires period { IsPeriod period }
         requires ticks { AreTicks line.now ticks.now }
         requires solves { Solves (system_below line.now path.now) period (tick_at ticks.now) }
         ensures same { self.new ≡ self.old }
@@ -154,16 +138,6 @@ impl Lookup {
             firsts: self.firsts.as_slice(),
             spans: self.spans.as_slice(),
         };
-        ask(
-            line,
-            table,
-            path,
-            ticks,
-            period,
-            &mut self.choices[..],
-            &mut self.assigned[..],
-            &mut self.tanks[..],
-            &mut self.starts[..],
-        )
+        ask(line, table, path, ticks, period, &mut self.room)
     }
 }

@@ -1,23 +1,12 @@
 // The choices of tanks and of hoists on a path, by the numbers of the visits and of the moves.
-ghost use Rattle.std.specs.Prelude.{◌≡◌, ℕ, ◌+◌, ◌*◌, ◌<◌, ◌≤◌, ◌↔◌, length, get_or, None, IsTrue};
-ghost use Rattle.hoist_base.specs.LineData.{IsVisit, stage, move_count};
-ghost use Rattle.period_constraints.specs.Questions.{FitsPath};
-ghost use Rattle.period_constraints.specs.Pairs.{visit_count, IsFirstNumber};
+ghost use Rattle.std.specs.Prelude.{◌≡◌, ◌≤◌, ◌↔◌, length, None, IsTrue};
+ghost use Rattle.hoist_base.specs.LineData.{IsVisit, stage, move_count, visit_count};
+ghost use Rattle.path_constraints.specs.Questions.{FitsPath};
+ghost use Rattle.period_constraints.specs.Pairs.{IsFirstNumber};
 ghost use Rattle.period_constraints.specs.Marks.{AreChoices, AreAssigned, IsOpenByChoices, HaveTanks, AreChosen};
 
-use crate::holds::number_of;
-use crate::pairs::{visit_at, visit_count as count_of_visits};
 use choice_tree::{Decision, Question};
 use hoist_base::{Line, VisitId};
-
-/// The number of a visit among all visits.
-pub(crate) fn visit_number(line: &Line, visit: VisitId) -> u32
-    requires { IsVisit line.now visit.carrier visit.stage }
-    ensures value { result ≡ visit.carrier * length line.now.stages + visit.stage }
-    ensures there { result < visit_count line.now }
-{
-    visit.carrier * (line.inner() + 2) + visit.stage
-}
 
 /// Notes which tank of its stage each visit has by its Choose, and which hoist of those that reach it each move has by
 /// its Assign, or None.
@@ -37,11 +26,10 @@ pub(crate) fn mark(
     for decision in path {
         match decision.question {
             Question::Choose { v } => {
-                choices[visit_number(line, v) as usize] = Some(decision.child);
+                choices[line.visit_number(v) as usize] = Some(decision.child);
             }
             Question::Assign { m } => {
-                let place = number_of(line, m.carrier, m.step);
-                assigned[place as usize] = Some(decision.child);
+                assigned[line.move_number(m) as usize] = Some(decision.child);
             }
             _ => {}
         }
@@ -53,8 +41,8 @@ pub(crate) fn first_open_visit(line: &Line, choices: &[Option<u32>]) -> Option<u
     requires room { visit_count line.now ≤ length choices.now }
     ensures { IsFirstNumber (IsOpenByChoices line.now choices.now) result }
 {
-    for number in 0..count_of_visits(line) {
-        if is_open(line, choices[number as usize], visit_at(line, number)) {
+    for number in 0..line.visit_count() {
+        if is_open(line, choices[number as usize], line.visit_at(number)) {
             return Some(number);
         }
     }
@@ -76,8 +64,8 @@ pub(crate) fn write_tanks(line: &Line, choices: &[Option<u32>], tanks: &mut [u32
     requires room { visit_count line.now ≤ length tanks.old }
     ensures { AreChosen line.now choices.now tanks.new }
 {
-    for number in 0..count_of_visits(line) {
-        let visit = visit_at(line, number);
+    for number in 0..line.visit_count() {
+        let visit = line.visit_at(number);
         let chosen = choices[number as usize].unwrap_or(0);
         let stage = &line.stages()[visit.stage as usize];
         tanks[number as usize] = stage.tanks.as_slice()[chosen as usize];

@@ -2,18 +2,18 @@
 ghost use Rattle.std.specs.Prelude.{◌≡◌, ℕ, ◌≤◌, ◌<◌, length, unsigned_abs, IfSome};
 ghost use Rattle.hoist_base.specs.LineData.{IsMove, move_count};
 ghost use Rattle.collision_pairs.specs.Clash.{IsTight};
-ghost use Rattle.period_constraints.specs.Ticks.{AreTicks, tick_at};
+ghost use Rattle.longest_path.specs.Bounds.{IsPeriod};
+ghost use Rattle.path_constraints.specs.Ticks.{AreTicks, tick_at};
 ghost use Rattle.period_constraints.specs.Stays.{AreRouted, AreNear};
 ghost use Rattle.period_constraints.specs.Starts as starts;
 ghost use Rattle.period_constraints.specs.Pairs.{IsFirstShift, IsFirstPair};
 ghost use Rattle.period_constraints.specs.Starts.{IsTable, IsNumbered, AreClashing, AreNumbered, AreMeeting, IsRide, IsStart, AreStarts, clash_rides, ride_in};
 
-use crate::holds::Moment;
-use crate::pairs::{Pair, first_shift, move_at, move_count as count_of_moves};
-use crate::rides::{Ride, hoist_by};
+use crate::pairs::{Pair, first_shift};
 use crate::stays::{motion_by, since_first};
 use collision_pairs::{Span, clash};
 use hoist_base::{Line, MoveId};
+use path_constraints::{Moment, Ride, hoist_by};
 
 /// The ride of a move, where it is settled, its number among the rides of a table, and the tick of its start, from that
 /// of move 0 on.
@@ -63,7 +63,7 @@ fn clash_shift(line: &Line, table: Table, a: Start, b: Start, period: u32) -> Op
     requires table { IsTable line.now table.rides.now table.spans.now }
     requires first { IsNumbered line.now table.rides.now a }
     requires second { IsNumbered line.now table.rides.now b }
-    requires period { (1 ≤ period) × (period ≤ 20001) }
+    requires period { IsPeriod period }
     ensures first { IsFirstShift (λ q. AreClashing line.now a b period q) result }
     ensures small { IfSome result (λ q. unsigned_abs q ≤ 1000000000) }
 {
@@ -91,7 +91,7 @@ fn first_meeting_of(
     requires table { IsTable line.now table.rides.now table.spans.now }
     requires few { length starts.now ≤ 128 }
     requires numbered { AreNumbered line.now table.rides.now starts.now }
-    requires period { (1 ≤ period) × (period ≤ 20001) }
+    requires period { IsPeriod period }
     requires there { first < length starts.now }
     ensures first { IsFirstPair (λ i j q. (i ≡ first) × AreMeeting line.now starts.now period i j q) result }
     ensures small { IfSome result (λ x. unsigned_abs x.shift ≤ 1000000000) }
@@ -125,7 +125,7 @@ pub(crate) fn first_meeting(
     requires table { IsTable line.now table.rides.now table.spans.now }
     requires few { length starts.now ≤ 128 }
     requires numbered { AreNumbered line.now table.rides.now starts.now }
-    requires period { (1 ≤ period) × (period ≤ 20001) }
+    requires period { IsPeriod period }
     ensures first { IsFirstPair (AreMeeting line.now starts.now period) result }
     ensures small { IfSome result (λ x. unsigned_abs x.shift ≤ 1000000000) }
 {
@@ -183,7 +183,7 @@ fn start_at(
     ensures start { IsStart line.now tanks.now assigned (tick_at ticks.now) number result }
     ensures numbered { IsNumbered line.now table.entry.rides.now result }
 {
-    let m = move_at(line, number);
+    let m = line.move_at(number);
     let ride = ride_by(line, tanks, assigned, m);
     let moment = Moment {
         carrier: m.carrier,
@@ -215,8 +215,9 @@ pub(crate) fn write_starts(
     requires near { AreNear line.now (tick_at ticks.now) }
     ensures starts { AreStarts line.now tanks.now assigned.now (tick_at ticks.now) starts.new }
     ensures numbered { AreNumbered line.now table.entry.rides.now starts.new }
+    ensures few { length starts.new ≤ 124 }
 {
-    for number in 0..count_of_moves(line) {
+    for number in 0..line.move_count() {
         starts[number as usize] = start_at(
             line,
             table,

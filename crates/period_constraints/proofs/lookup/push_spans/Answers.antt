@@ -14,6 +14,7 @@ pub loop-place-preserved : goal.loop-place-preserved
 loop-place-preserved c = record {
   count = search rules;
   spans =
-      spans_more c.args.line.now c.args.rides.now c.loop-place.spans.items c.push.new.self.items c.clash.result c.loop-place.place c.loop-place.invariant.count c.in_ok-push.ensures.items
+      spans_more c.args.line.now c.args.rides.now c.loop-place.spans.items c.push.new.self.items c.clash.result c.loop-place.place c.loop-place.invariant.count
+      c.in_ok-push.ensures.items
       c.clash.ensures.value c.clash.ensures.tight c.loop-place.invariant.spans;
 }

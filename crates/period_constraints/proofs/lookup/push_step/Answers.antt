@@ -13,5 +13,8 @@ pub motion_between-motion-requires-clause-tanks : goal.motion_between-motion-req
 motion_between-motion-requires-clause-tanks c =
     let a = length c.tanks_of-from.result.now in
     let b = length c.tanks_of-to.result.now in
-    let p = c.loop-pair.pair in
-    (c.tanks_of-from.ensures.there (p / b) (row_there p a b c.loop-pair-test.true), c.tanks_of-to.ensures.there (p % b) (column_there p a b c.loop-pair-test.true))
+    let p = c.loop-pair.pair in (
+      c.tanks_of-from.ensures.there (p / b) (row_there p a b c.loop-pair-test.true),
+      c.tanks_of-to.ensures.there (p % b)
+          (column_there p a b c.loop-pair-test.true),
+    )

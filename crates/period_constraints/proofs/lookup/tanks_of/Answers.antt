@@ -1,5 +1,5 @@
 use Rattle.std.proofs.Common.{arith, length, ap, ℕ, List}
-use Rattle.period_constraints.proofs.TankLemmas.{tanks_read, tanks_there}
+use Rattle.path_constraints.proofs.TankLemmas.{tanks_read, tanks_there}
 use Rattle.period_constraints.proofs.lookup.tanks_of.Goals as goal
 
 pub returns-clause-few : goal.returns-clause-few

@@ -1,7 +1,7 @@
 use Rattle.std.proofs.Common.{ℕ, List, sym, subst, take, ◌+◌}
 use Rattle.std.specs.Prelude.{Option}
 use Rattle.period_constraints.specs.Marks.{AreChoices, AreAssigned}
-use Rattle.period_constraints.specs.Tanks.{decision_at}
+use Rattle.path_constraints.specs.Tanks.{decision_at}
 use Rattle.period_constraints.proofs.MarkLemmas.{choice_noted, choices_stay, assigned_noted, assigned_stay, choice_other, assigned_other}
 use Rattle.period_constraints.proofs.marks.mark.Goals.{in-Choose, in-Assign, in_default}
 use Rattle.period_constraints.proofs.marks.mark.Goals as goal
@@ -20,19 +20,25 @@ loop-decision-preserved c =
       | in-Choose w ↦
           let v = w.in-Choose.v in (
             subst C (sym w.choices-is)
-                (choice_noted l path i v w.visit_number.result c.loop-decision.choices fits c.loop-decision-test.true w.in-Choose.is w.visit_number.ensures.value before.0),
+                (choice_noted l path i v w.visit_number.result c.loop-decision.choices fits c.loop-decision-test.true w.in-Choose.is
+                w.visit_number.ensures.value before.0),
             subst A (sym w.assigned-is)
-                (assigned_stay l path i c.loop-decision.assigned c.loop-decision-test.true (λ n k. assigned_other d.question (λ m e. let f = w.in-Choose.is in cc) n k d.child) before.1),
+                (assigned_stay l path i c.loop-decision.assigned c.loop-decision-test.true
+                (λ n k. assigned_other d.question (λ m e. let f = w.in-Choose.is in cc) n k d.child) before.1),
           )
       | in-Assign w ↦
           let m = w.in-Assign.m in (
             subst C (sym w.choices-is)
-                (choices_stay l path i c.loop-decision.choices c.loop-decision-test.true (λ n k. choice_other d.question (λ v e. let f = w.in-Assign.is in cc) n k d.child) before.0),
+                (choices_stay l path i c.loop-decision.choices c.loop-decision-test.true
+                (λ n k. choice_other d.question (λ v e. let f = w.in-Assign.is in cc) n k d.child) before.0),
             subst A (sym w.assigned-is)
-                (assigned_noted l path i m w.number_of-place.result c.loop-decision.assigned fits c.loop-decision-test.true w.in-Assign.is w.number_of-place.ensures.value before.1),
+                (assigned_noted l path i m w.move_number.result c.loop-decision.assigned fits c.loop-decision-test.true w.in-Assign.is
+                w.move_number.ensures.value before.1),
           )
       | in_default w ↦ (
-        subst C (sym w.choices-is) (choices_stay l path i c.loop-decision.choices c.loop-decision-test.true (λ n k. choice_other d.question w.in_default.not-Choose n k d.child) before.0),
-        subst A (sym w.assigned-is) (assigned_stay l path i c.loop-decision.assigned c.loop-decision-test.true (λ n k. assigned_other d.question w.in_default.not-Assign n k d.child) before.1),
+        subst C (sym w.choices-is) (choices_stay l path i c.loop-decision.choices c.loop-decision-test.true
+            (λ n k. choice_other d.question w.in_default.not-Choose n k d.child) before.0),
+        subst A (sym w.assigned-is) (assigned_stay l path i c.loop-decision.assigned c.loop-decision-test.true
+            (λ n k. assigned_other d.question w.in_default.not-Assign n k d.child) before.1),
       )
     ]

@@ -1,6 +1,5 @@
 use Rattle.std.proofs.Common.{ℕ, ◌<◌, ◌≡◌, get_or}
-use Rattle.hoist_base.specs.LineData.{stage}
-use Rattle.period_constraints.specs.Pairs.{visit_at}
+use Rattle.hoist_base.specs.LineData.{stage, visit_at}
 use Rattle.period_constraints.specs.Marks.{place_by}
 use Rattle.period_constraints.proofs.marks.write_tanks.Given as goal
 

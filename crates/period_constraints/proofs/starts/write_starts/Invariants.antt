@@ -1,5 +1,5 @@
 use Rattle.std.proofs.Common.{ℕ, ◌<◌, get_or, None}
-use Rattle.period_constraints.specs.Ticks.{tick_at}
+use Rattle.path_constraints.specs.Ticks.{tick_at}
 use Rattle.period_constraints.specs.Starts.{IsStart, IsNumbered, start}
 use Rattle.period_constraints.proofs.starts.write_starts.Given as goal
 

@@ -1,5 +1,5 @@
 use Rattle.std.proofs.Common.{ℕ, ◌<◌, ℤ}
-use Rattle.period_constraints.specs.Ticks.{tick_at}
+use Rattle.path_constraints.specs.Ticks.{tick_at}
 use Rattle.period_constraints.specs.Routed.{HoldOneTank}
 use Rattle.period_constraints.proofs.stays.first_tank_pair_of.Given as goal
 

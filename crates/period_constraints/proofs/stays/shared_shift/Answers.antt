@@ -3,7 +3,7 @@ use Rattle.std.specs.Prelude.{◌-ℤ◌}
 use Rattle.std.proofs.lemmas.Int.{ints}
 use mir.Val.{to_z, of_z}
 use mir.Syntax.{w32}
-use Rattle.period_constraints.specs.Ticks.{tick_at}
+use Rattle.path_constraints.specs.Ticks.{tick_at}
 use Rattle.period_constraints.proofs.StayLemmas.{tank_shift}
 use Rattle.period_constraints.proofs.stays.shared_shift.Goals as goal
 
@@ -24,5 +24,6 @@ returns-then-tanks-first-clause-first c =
     let high : ℤ = to_z w32 (of_z w32 (to_z w32 (of_z w32 a.end) -ℤ to_z w32 (of_z w32 b.begin))) in
     let is_low : low ≡ a.begin -ℤ b.end = omega (arith, ints, c.stay_at-a.ensures.near, c.stay_at-b.ensures.near) in
     let is_high : high ≡ a.end -ℤ b.begin = omega (arith, ints, c.stay_at-a.ensures.near, c.stay_at-b.ensures.near) in
-    tank_shift c.args.line.now c.args.tanks.now (tick_at c.args.ticks.now) a b c.args.period c.args.first c.args.second low high c.first_shift.result c.stay_at-a.ensures c.stay_at-b.ensures
+    tank_shift c.args.line.now c.args.tanks.now (tick_at c.args.ticks.now) a b c.args.period c.args.first c.args.second low high c.first_shift.result
+    c.stay_at-a.ensures c.stay_at-b.ensures
     c.requires.there.0 c.requires.there.1 c.if-tanks-first.true is_low is_high c.first_shift.ensures.first

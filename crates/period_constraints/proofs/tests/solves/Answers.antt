@@ -3,8 +3,8 @@ use Rattle.std.specs.Prelude.{◌+ℤ◌, ◌≤ℤ◌}
 use Rattle.std.proofs.lemmas.Int.{ints}
 use Rattle.longest_path.specs.declared.systems.Arc.{Arc}
 use Rattle.longest_path.specs.System.{arc, weight}
-use Rattle.period_constraints.specs.Constraints.{no_arc}
-use Rattle.period_constraints.specs.Ticks.{tick_at}
+use Rattle.path_constraints.specs.Constraints.{no_arc}
+use Rattle.path_constraints.specs.Ticks.{tick_at}
 use Rattle.period_constraints.proofs.tests.solves.Goals as goal
 
 pub loop-arc-preserved : goal.loop-arc-preserved

@@ -1,7 +1,7 @@
 use Rattle.std.proofs.Common.{ℕ, ◌<◌}
 use Rattle.std.specs.Prelude.{◌+ℤ◌, ◌≤ℤ◌}
 use Rattle.longest_path.specs.System.{arc, weight}
-use Rattle.period_constraints.specs.Ticks.{tick_at}
+use Rattle.path_constraints.specs.Ticks.{tick_at}
 use Rattle.period_constraints.proofs.tests.solves.Given as goal
 
 -- those so far are kept

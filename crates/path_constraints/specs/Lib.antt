@@ -1,0 +1,10 @@
+pub mod Tanks
+pub mod Hoists
+pub mod Holds
+pub mod Places
+pub mod Ticks
+pub mod Constraints
+pub mod Questions
+pub mod Meets
+pub mod Proves
+pub mod Laws

@@ -1,5 +1,0 @@
-use Rattle.period_constraints.proofs.CoverLemmas as lemmas
-use Rattle.period_constraints.proofs.laws.cover.Goals as goal
-
-pub returns : goal.returns
-returns c = lemmas.cover

@@ -1,5 +1,0 @@
-use Rattle.period_constraints.proofs.CoverTreeLemmas as lemmas
-use Rattle.period_constraints.proofs.laws.proof_bounds.Goals as goal
-
-pub returns : goal.returns
-returns c = lemmas.proof_bounds

@@ -1,7 +1,0 @@
-use Rattle.std.proofs.Common.{[]}
-use Rattle.period_constraints.specs.Places.{Rewrites}
-use Rattle.period_constraints.proofs.BaseLemmas.{IsOfCarriers}
-use Rattle.period_constraints.proofs.systems.base_of.Given as goal
-
-abbrev pub invariant-loop-carrier : goal.invariant-loop-carrier
-invariant-loop-carrier l = Rewrites l.line [] (IsOfCarriers l.carrier) l.initial.s l.s

@@ -1,6 +1,0 @@
-use Rattle.period_constraints.specs.Places.{Rewrites}
-use Rattle.period_constraints.proofs.BaseLemmas.{IsOfSteps}
-use Rattle.period_constraints.proofs.systems.write_carrier.Given as goal
-
-abbrev pub invariant-loop-step : goal.invariant-loop-step
-invariant-loop-step l = Rewrites l.line l.path (IsOfSteps l.carrier l.step) l.fn.s l.s

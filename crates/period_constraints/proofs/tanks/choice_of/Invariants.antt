@@ -1,8 +1,0 @@
-use Rattle.std.proofs.Common.{◌≡◌, drop}
-use Rattle.period_constraints.specs.Tanks.{choice_of}
-use Rattle.period_constraints.proofs.tanks.choice_of.Given as goal
-
--- no decision so far is the visit's
-abbrev pub invariant-loop-decision : goal.invariant-loop-decision
-invariant-loop-decision l =
-    choice_of (drop l.decision-index l.path) l.visit.carrier l.visit.stage ≡ choice_of l.path l.visit.carrier l.visit.stage
