@@ -9,7 +9,8 @@ use Rattle.choice_tree.specs.declared.node.Node.TheVariants.{Left}
 use Rattle.choice_tree.specs.Nodes.{node_at, children_of}
 use Rattle.choice_tree.specs.Trees.{IsTree, preorder_below, preorder}
 
-flat_map_same : (F G : ℕ → List ℕ) (xs : List ℕ) → ((m : ℕ) → m < length xs → F (get_or xs m 0) ≡ G (get_or xs m 0)) → flat_map F xs ≡ flat_map G xs
+-- two functions that agree on every element of a list make one list of it
+pub flat_map_same : (F G : ℕ → List ℕ) (xs : List ℕ) → ((m : ℕ) → m < length xs → F (get_or xs m 0) ≡ G (get_or xs m 0)) → flat_map F xs ≡ flat_map G xs
 flat_map_same F G [] h = refl
 flat_map_same F G (x ∷ xs) h =
     let e : F x ≡ G x = h 0 (omega arith) in
@@ -17,7 +18,7 @@ flat_map_same F G (x ∷ xs) h =
     ap (λ (ys : List ℕ). ys ++ flat_map F xs) e ∙ ap (λ (ys : List ℕ). G x ++ ys) r
 
 -- each depth that is enough gives the same order
-enough : (nodes : List Node) → IsTree nodes → (f g i : ℕ) → i < length nodes → length nodes ≤ f + i → length nodes ≤ g + i → preorder_below f nodes i ≡ preorder_below g nodes i
+pub enough : (nodes : List Node) → IsTree nodes → (f g i : ℕ) → i < length nodes → length nodes ≤ f + i → length nodes ≤ g + i → preorder_below f nodes i ≡ preorder_below g nodes i
 enough nodes tree zero g i lt p q = absurd (omega arith)
 enough nodes tree (suc f) zero i lt p q = absurd (omega arith)
 enough nodes tree (suc f) (suc g) i lt p q =
@@ -29,10 +30,11 @@ enough nodes tree (suc f) (suc g) i lt p q =
     enough nodes tree f g (get_or cs m 0) c.1 (omega (arith, c.0, p)) (omega (arith, c.0, q))))
 
 -- all that is below a node, at full depth
-abbrev below : List Node → ℕ → List ℕ
+abbrev pub below : List Node → ℕ → List ℕ
 below nodes i = preorder_below (length nodes) nodes i
 
-below_step : (nodes : List Node) → IsTree nodes → (i : ℕ) → i < length nodes → below nodes i ≡ i ∷ flat_map (below nodes) (children_of (node_at nodes i))
+-- a node comes first, then all that is below its children, one child after another
+pub below_step : (nodes : List Node) → IsTree nodes → (i : ℕ) → i < length nodes → below nodes i ≡ i ∷ flat_map (below nodes) (children_of (node_at nodes i))
 below_step nodes tree i lt = enough nodes tree (length nodes) (suc (length nodes)) i lt (omega arith) (omega arith)
 
 all_there : (P : ℕ → Type 0) (xs : List ℕ) → ((m : ℕ) → m < length xs → P (get_or xs m 0)) → All P xs

@@ -17,6 +17,14 @@ IsLeft (Stuck m) = ⊥
 IsLeft (Solved low) = ⊥
 IsLeft (Left low) = Unit {0}
 
+-- no node of the tree is left: the search has expanded it to its leaves
+abbrev pub NoneLeft : List Node → Type 0
+NoneLeft nodes = (i : ℕ) → i < length nodes → IsLeft (node_at nodes i) → ⊥
+
+-- some node of the tree is left
+abbrev pub SomeLeft : List Node → Type 0
+SomeLeft nodes = (i : ℕ) × (i < length nodes) × IsLeft (node_at nodes i)
+
 abbrev pub IsLeaf : Node → Type 0
 IsLeaf (Split question children) = ⊥
 IsLeaf (Closed low high) = Unit {0}

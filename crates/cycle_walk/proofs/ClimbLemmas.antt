@@ -1,8 +1,8 @@
 -- The climb: the next period, and what is ruled out below it.
-use Rattle.std.proofs.Common.{◌≡◌, ℕ, zero, suc, ◌+◌, ◌*◌, ◌<◌, ◌≤◌, ⊎_elim, refl, sym, ap, subst, ◌∙◌, cond, Option, Some, None, ℤ, pos, negsuc, ◌+ℤ◌, ◌*ℤ◌, ◌≤ℤ◌, ◌<ℤ◌, arith}
-use Rattle.std.specs.Prelude.{unsigned_abs, nat_lt, IfSome}
+use Rattle.std.proofs.Common.{◌≡◌, ℕ, zero, suc, ◌+◌, ◌*◌, ◌<◌, ◌≤◌, ⊎_elim, [], refl, sym, ap, subst, ◌∙◌, cond, Option, Some, None, ℤ, pos, negsuc, ◌+ℤ◌, ◌*ℤ◌, ◌≤ℤ◌, ◌<ℤ◌, arith}
+use Rattle.std.specs.Prelude.{unsigned_abs, nat_lt, min, IfSome}
 use Rattle.std.specs.Int.{div_ceil, is_negative}
-use Rattle.std.proofs.lemmas.Int.{ints}
+use Rattle.std.proofs.lemmas.Int.{ints, by_lt_z}
 use Rattle.std.proofs.lemmas.Bool.{cases_lt, cond-true, cond-false, lt-ltb, le-ltb}
 use Rattle.std.proofs.lemmas.Nat.{mul-le}
 use Rattle.std.proofs.lemmas.Grind.{div_ceil_times}
@@ -10,6 +10,8 @@ use Rattle.longest_path.specs.System.{SystemData, IsSystem, Refutes}
 use Rattle.cycle_walk.specs.Closed.{WalkData, closed_walk_of, IsFeasible, IsClosedWalk, HasSmallSums}
 use Rattle.cycle_walk.specs.declared.climbing.Climbed.{Climbed}
 use Rattle.cycle_walk.specs.declared.climbing.Climbed.TheVariants.{Floor, Shut}
+use Rattle.cycle_walk.specs.declared.sums.Sums.{Sums}
+use Rattle.cycle_walk.specs.Refuting.{sums_of}
 use Rattle.cycle_walk.specs.Climb.{match_walk, least_kept, climb_from, AllWalks}
 use Rattle.cycle_walk.proofs.ClosedLemmas.{IsRefutedBy, closed_cases, closed_refutes, sums_small}
 use Rattle.cycle_walk.proofs.FirstLemmas.{true_lt, false_lt}
@@ -43,6 +45,17 @@ rising (negsuc n) m t h le = absurd (omega (arith, ints, h))
 pub refutes_on : (w q : ℤ) (period t : ℕ) → Refutes w q period → pos 0 ≤ℤ q → period ≤ t → Refutes w q t
 refutes_on w q period t gains up le = omega (arith, ints, gains, rising q period t up le)
 
+-- sums that refute a period, and not an earlier one, refute all later ones
+pub refutes_later : (w q : ℤ) (m p t : ℕ) → m ≤ p → p ≤ t → (Refutes w q m → ⊥) → Refutes w q p → Refutes w q t
+refutes_later w q m p t le le' shut gains =
+    by_lt_z q (pos 0)
+    (λ down.
+    let (here, at_m) = falling q m down in
+    let at_p = falling q p down in
+    let under = mul-le m (unsigned_abs q) p (unsigned_abs q) le (omega arith) in
+    absurd (shut (omega (arith, ints, gains, at_m, at_p.1, under))))
+    (λ up. refutes_on w q p t gains up le')
+
 -- where q is below 0 the least period kept is above this one, and all below it are refuted
 pub kept_later : (walk : WalkData) (period : ℕ) → Refutes walk.w walk.q period → walk.q <ℤ pos 0 → period < least_kept walk
 kept_later walk period gains down =
@@ -55,6 +68,57 @@ refutes_below walk period t gains down lt =
     let at = falling walk.q period down in
     let under = below_kept (unsigned_abs walk.w) (unsigned_abs walk.q) t p lt in
     omega (arith, ints, gains, line, at.1, under)
+
+-- both at numbers that are read as the sizes of w and of q
+abbrev walk_with : ℤ → ℤ → WalkData
+walk_with w q = record { arcs = []; w = w; q = q }
+
+pub refuted_before : (w q : ℤ) (a b period t : ℕ) → a ≡ unsigned_abs w → b ≡ unsigned_abs q
+    → Refutes w q period → q <ℤ pos 0 → t < div_ceil a b → Refutes w q t
+refuted_before w q a b period t is_w is_q gains down lt =
+    let kept : div_ceil a b ≡ div_ceil (unsigned_abs w) (unsigned_abs q) = λ i. div_ceil (is_w i) (is_q i) in
+    refutes_below (walk_with w q) period t gains down (omega (arith, kept, lt))
+
+pub kept_from : (w q : ℤ) (a b t : ℕ) → a ≡ unsigned_abs w → b ≡ unsigned_abs q
+    → q <ℤ pos 0 → div_ceil a b ≤ t → Refutes w q t → ⊥
+kept_from w q a b t is_w is_q down le gains =
+    let kept : div_ceil a b ≡ div_ceil (unsigned_abs w) (unsigned_abs q) = λ i. div_ceil (is_w i) (is_q i) in
+    omega (arith, kept, le, kept_later (walk_with w q) t gains down)
+
+-- the least period below a cap that falling sums don't refute is the least period kept, or the cap where that is less
+pub kept_is : (walk : WalkData) (period cap kept : ℕ) → Refutes walk.w walk.q period → walk.q <ℤ pos 0
+    → kept ≤ cap → ((t : ℕ) → 1 ≤ t → t < kept → Refutes walk.w walk.q t)
+    → (kept < cap → Refutes walk.w walk.q kept → ⊥) → kept ≡ min (least_kept walk) cap
+kept_is walk period cap kept gains down most below met =
+    let least = least_kept walk in
+    let up : kept ≤ least =
+    ⊎_elim (λ (less : least < kept). absurd (let later = kept_later walk period gains down in let again = kept_later walk least (below least (omega (arith, later)) less) down in omega (arith, again))) (λ le. le)
+    (cases_lt least kept) in
+    ⊎_elim
+    (λ (lt : kept < cap).
+    ⊎_elim (λ (less : kept < least). absurd (met lt (refutes_below walk period kept gains down less))) (λ (le : least ≤ kept). omega (arith, up, le, lt)) (cases_lt kept least))
+    (λ (le : cap ≤ kept). omega (arith, up, le, most))
+    (cases_lt kept cap)
+
+-- and so at the walk's sums as they are handed out
+pub raised : (sums : Sums) (walk : WalkData) (period cap kept : ℕ) → sums ≡ sums_of walk
+    → Refutes walk.w walk.q period → walk.q <ℤ pos 0
+    → kept ≤ cap → ((t : ℕ) → 1 ≤ t → t < kept → Refutes sums.w sums.q t)
+    → (kept < cap → Refutes sums.w sums.q kept → ⊥) → kept ≡ min (least_kept walk) cap
+raised sums walk period cap kept is gains down most below met =
+    let refutes_at : ℕ → Sums → Type 0 = λ t x. Refutes x.w x.q t in
+    kept_is walk period cap kept gains down most
+    (λ t some lt. subst (refutes_at t) is (below t some lt))
+    (λ lt again. met lt (subst (refutes_at kept) (sym is) again))
+
+pub down_of : (sums : Sums) (walk : WalkData) → sums ≡ sums_of walk → sums.q <ℤ pos 0 → walk.q <ℤ pos 0
+down_of sums walk is down = omega (arith, ints, ap (λ (x : Sums). x.q) is, down)
+
+pub up_of : (sums : Sums) (walk : WalkData) → sums ≡ sums_of walk → (sums.q <ℤ pos 0 → ⊥) → pos 0 ≤ℤ walk.q
+up_of sums walk is up =
+    by_lt_z walk.q (pos 0)
+    (λ lt. absurd (up (omega (arith, ints, ap (λ (x : Sums). x.q) is, lt))))
+    (λ le. le)
 
 -- ---- what is known of a period, by what was found
 pub found_none : (s : SystemData) (period : ℕ) → IsSystem s → closed_walk_of s period ≡ None → IsFeasible s period
@@ -100,6 +164,18 @@ climb_raises s cap (suc fuel) period low walk answer lt enough e down later is =
     ∙ ap (λ o. match_walk o (Floor period low) (λ walk. cond (is_negative walk.q) (climb_from s cap fuel (least_kept walk) (Some walk)) (Shut low (Some walk)))) e
     ∙ cond-true (is_negative walk.q) (climb_from s cap fuel (least_kept walk) (Some walk)) (Shut low (Some walk)) (true_lt walk.q (pos 0) down) in
     (fuel, omega (arith, enough, later), sym step ∙ is)
+
+-- a climb that goes on at the cap goes on as one that goes on later
+pub climb_capped : (s : SystemData) (cap fuel period kept : ℕ) (low : Option WalkData) (answer : Climbed)
+    → kept ≡ min period cap → cap ≤ period + fuel → climb_from s cap fuel period low ≡ answer
+    → (cap ≤ kept + fuel) × (climb_from s cap fuel kept low ≡ answer)
+climb_capped s cap fuel period kept low answer is enough goes =
+    ⊎_elim
+    (λ (lt : period < cap). let same : kept ≡ period = omega (arith, is, lt) in
+    (omega (arith, same, enough), ap (λ t. climb_from s cap fuel t low) same ∙ goes))
+    (λ (le : cap ≤ period). let same : kept ≡ cap = omega (arith, is, le) in
+    (omega (arith, same), climb_at_cap s cap fuel kept low (omega (arith, same)) ∙ sym (climb_at_cap s cap fuel period low le) ∙ goes))
+    (cases_lt period cap)
 
 -- ---- what is ruled out
 pub none_before : (s : SystemData) (period : ℕ) (walk : WalkData) → IsRefutedBy s period walk → walk.q <ℤ pos 0 → (t : ℕ) → t < least_kept walk → IsFeasible s t → ⊥

@@ -4,3 +4,4 @@ pub mod Trail
 pub mod Climb
 pub mod Laws
 pub mod Links
+pub mod Refuting

@@ -1,7 +1,7 @@
 //! The climb to the least feasible period.
 
-ghost use Rattle.std.specs.Prelude.{◌≡◌, ℕ, ◌≤◌, ◌<◌, ◌<ℤ◌, ◌↔◌, pos, length, unsigned_abs, IfOk, IsTrue};
-ghost use Rattle.std.specs.Int.{div_ceil};
+ghost use Rattle.std.specs.Prelude.{◌≡◌, ℕ, ◌≤◌, ◌<◌, length, IfOk};
+ghost use Rattle.longest_path.specs.Bounds.{IsCap};
 ghost use Rattle.longest_path.specs.System.{IsSystem};
 ghost use Rattle.longest_path.specs.Room.{HasRoom};
 ghost use Rattle.cycle_walk.specs.Links.{AreLinks};
@@ -17,7 +17,7 @@ use std::alloc::{AllocError, Global};
 /// What `climb` answers.
 #[derive(Debug, Drop)]
 pub enum Climbed {
-    /// The least feasible period below the cap; `low` refutes all below it, and is missing where that is period 1.
+    /// The least feasible period below the cap. `low` refutes all periods below it, and is missing where it is 1.
     Floor {
         period: u32,
         low: Option<Walk>,
@@ -29,25 +29,9 @@ pub enum Climbed {
     },
 }
 
-#[inline]
-fn falls(q: i64) -> bool
-    ensures { IsTrue result ↔ (q <ℤ pos 0) }
-{
-    q < 0
-}
-
-// The least period that a walk does not refute, where its q is below 0.
-fn least_kept(w: i64, q: i64) -> u32
-    requires w { unsigned_abs w ≤ 1240000000 }
-    requires q { q <ℤ pos 0 }
-    ensures { result ≡ div_ceil (unsigned_abs w) (unsigned_abs q) }
-{
-    w.unsigned_abs().div_ceil(q.unsigned_abs()) as u32
-}
-
 fn climb_within(alloc: Global, s: &System, cap: u32, room: &mut Room) -> Result<Climbed, AllocError>
     requires valid { IsSystem s.now }
-    requires cap { (2 ≤ cap) × (cap ≤ 20001) }
+    requires cap { IsCap cap }
     requires room { HasRoom s.now room.old }
     requires links { AreLinks s.now room.old.firsts.items room.old.nexts.items }
     ensures climb { IfOk result (λ answer. answer ≡ climbed s.now cap) }
@@ -62,23 +46,27 @@ fn climb_within(alloc: Global, s: &System, cap: u32, room: &mut Room) -> Result<
         let Some(walk) = found else {
             return Ok(Climbed::Floor { period, low });
         };
-        if !falls(walk.q()) {
+        let sums = walk.sums();
+        if !sums.falls() {
             return Ok(Climbed::Shut {
                 low,
                 high: Some(walk),
             });
         }
-        period = least_kept(walk.w(), walk.q());
+        period = sums.least_kept(cap);
         low = Some(walk);
     }
     Ok(Climbed::Shut { low, high: None })
 }
 
-/// The least feasible period below a cap, with the last walk that raised it, which refutes all periods below; or that there is none, with walks that refute every period below the cap.
+/// The least feasible period below a cap, with the last walk that raised it, which refutes all periods below; or that
+/// there is none, with walks that refute every period below the cap.
 ///
-/// From period 1 each canonical closed walk with a q below 0 raises the period to the least one that it does not refute; one with any other q refutes all later periods too and ends the climb. Each step costs one `closed_walk_in`. The room is lent and serves again; beside it only the walks take memory.
+/// From period 1 on, each canonical closed walk with a q below 0 raises the period to the least one that it doesn't
+/// refute; one with any other q refutes all later periods too and ends the climb. Each step costs one `closed_walk_in`.
+/// The room is lent and serves again; beside it only the walks take memory.
 pub fn climb_in(alloc: Global, room: &mut Room, s: &System, cap: u32) -> Result<Climbed, AllocError>
-    requires { (2 ≤ cap) × (cap ≤ 20001) }
+    requires { IsCap cap }
     ensures climb { IfOk result (λ answer. answer ≡ climbed s.now cap) }
     ensures least { IfOk result (λ answer. IsLeastFeasible s.now cap answer) }
     ensures refuted { IfOk result (λ answer. AreRefuted cap answer) }
@@ -87,13 +75,12 @@ pub fn climb_in(alloc: Global, room: &mut Room, s: &System, cap: u32) -> Result<
 {
     room.fit(s)?;
     link(s, &mut room.firsts, &mut room.nexts);
-    let answer = climb_within(alloc, s, cap, room)?;
-    Ok(answer)
+    climb_within(alloc, s, cap, room)
 }
 
 /// `climb_in` in room of its own.
 pub fn climb(alloc: Global, s: &System, cap: u32) -> Result<Climbed, AllocError>
-    requires { (2 ≤ cap) × (cap ≤ 20001) }
+    requires { IsCap cap }
     ensures climb { IfOk result (λ answer. answer ≡ climbed s.now cap) }
     ensures least { IfOk result (λ answer. IsLeastFeasible s.now cap answer) }
     ensures refuted { IfOk result (λ answer. AreRefuted cap answer) }
@@ -101,6 +88,5 @@ pub fn climb(alloc: Global, s: &System, cap: u32) -> Result<Climbed, AllocError>
     ensures small { IfOk result (λ answer. AllWalks HasSmallSums answer) }
 {
     let mut room = Room::new(alloc);
-    let answer = climb_in(alloc, &mut room, s, cap)?;
-    Ok(answer)
+    climb_in(alloc, &mut room, s, cap)
 }

@@ -1,6 +1,7 @@
 //! The canonical closed walk at a period.
 
-ghost use Rattle.std.specs.Prelude.{◌≡◌, ℕ, ◌-◌, ◌≤◌, ◌<◌, ◌↔◌, pos, false, length, unsigned_abs, IfOk, IfSome, IsTrue};
+ghost use Rattle.std.specs.Prelude.{◌≡◌, ℕ, ◌-◌, ◌≤◌, ◌<◌, ◌↔◌, pos, false, length, IfOk, IfSome, IsTrue};
+ghost use Rattle.longest_path.specs.Bounds.{IsWithinCap, IsPeriod};
 ghost use Rattle.longest_path.specs.System.{Refutes};
 ghost use Rattle.longest_path.specs.Rounds.{weights_at, number};
 ghost use Rattle.longest_path.specs.Room.{HasRoom};
@@ -35,13 +36,15 @@ fn begin(rows: &mut Vec<i64>, n: usize)
 
 // Fills the table with the walk values at a period, up to the first round that changes nothing: false there.
 fn rises(s: &System, period: u32, room: &mut Room) -> bool
-    requires period { period ≤ 20001 }
+    requires period { IsWithinCap period }
     requires room { HasRoom s.now room.old }
     ensures room { HasRoom s.now room.new }
     ensures links { (room.new.firsts ≡ room.old.firsts) × (room.new.nexts ≡ room.old.nexts) }
     ensures rows { IsTrue result → AreValues s.now period s.now.nodes room.new.rows.items }
     ensures rises { IsTrue result → (i : ℕ) × (i < s.now.nodes) × Rises s.now (weights_at s.now period) i }
-    ensures still { result ≡ false → (i : ℕ) → i < s.now.nodes → value s.now (weights_at s.now period) s.now.nodes i ≡ value s.now (weights_at s.now period) (s.now.nodes - 1) i }
+    ensures still { result ≡ false → (i : ℕ) → i < s.now.nodes
+        → value s.now (weights_at s.now period) s.now.nodes i
+        ≡ value s.now (weights_at s.now period) (s.now.nodes - 1) i }
 {
     let n = s.nodes() as usize;
     begin(&mut room.rows, n);
@@ -55,13 +58,13 @@ pub(crate) fn walk_within(
     period: u32,
     room: &mut Room,
 ) -> Result<Option<Walk>, AllocError>
-    requires period { period ≤ 20001 }
+    requires period { IsWithinCap period }
     requires room { HasRoom s.now room.old }
     requires links { AreLinks s.now room.old.firsts.items room.old.nexts.items }
     ensures room { HasRoom s.now room.new }
     ensures links { AreLinks s.now room.new.firsts.items room.new.nexts.items }
     ensures walk { IfOk result (λ walk. walk ≡ closed_walk_of s.now period) }
-    ensures small { IfOk result (λ walk. IfSome walk (λ w. unsigned_abs w.w ≤ 1240000000)) }
+    ensures small { IfOk result (λ walk. IfSome walk HasSmallSums) }
 {
     if !rises(s, period, room) {
         return Ok(None);
@@ -83,19 +86,21 @@ pub(crate) fn walk_within(
 
 /// The canonical closed walk at a period, which shows that no ticks solve the system; None exactly where some do.
 ///
-/// It relaxes round by round and stops at the first round that changes nothing; only where each round changes a node, so that the period is infeasible, it goes back over the rows: one look at the constraints that end at a node for each step, at most as many steps as nodes. The room is lent and serves again; beside it only the walk takes memory.
+/// It relaxes round by round and stops at the first round that changes nothing; only where each round changes a node,
+/// so that the period is infeasible, it goes back over the rows: one look at the constraints that end at a node for
+/// each step, at most as many steps as nodes. The room is lent and serves again; beside it only the walk takes memory.
 pub fn closed_walk_in(
     alloc: Global,
     room: &mut Room,
     s: &System,
     period: u32,
 ) -> Result<Option<Walk>, AllocError>
-    requires period { (1 ≤ period) × (period ≤ 20001) }
+    requires period { IsPeriod period }
     ensures canonical { IfOk result (λ walk. walk ≡ closed_walk_of s.now period) }
     ensures none { IfOk result (λ walk. (walk ≡ None) ↔ IsFeasible s.now period) }
     ensures refutes { IfOk result (λ walk. IfSome walk (λ w. Refutes w.w w.q period)) }
     ensures closed { IfOk result (λ walk. IfSome walk (λ w. IsClosedWalk s.now w)) }
-    ensures small { IfOk result (λ walk. IfSome walk (λ w. HasSmallSums w)) }
+    ensures small { IfOk result (λ walk. IfSome walk HasSmallSums) }
 {
     room.fit(s)?;
     link(s, &mut room.firsts, &mut room.nexts);
@@ -105,14 +110,13 @@ pub fn closed_walk_in(
 
 /// `closed_walk_in` in room of its own.
 pub fn closed_walk(alloc: Global, s: &System, period: u32) -> Result<Option<Walk>, AllocError>
-    requires period { (1 ≤ period) × (period ≤ 20001) }
+    requires period { IsPeriod period }
     ensures canonical { IfOk result (λ walk. walk ≡ closed_walk_of s.now period) }
     ensures none { IfOk result (λ walk. (walk ≡ None) ↔ IsFeasible s.now period) }
     ensures refutes { IfOk result (λ walk. IfSome walk (λ w. Refutes w.w w.q period)) }
     ensures closed { IfOk result (λ walk. IfSome walk (λ w. IsClosedWalk s.now w)) }
-    ensures small { IfOk result (λ walk. IfSome walk (λ w. HasSmallSums w)) }
+    ensures small { IfOk result (λ walk. IfSome walk HasSmallSums) }
 {
     let mut room = Room::new(alloc);
-    let walk = closed_walk_in(alloc, &mut room, s, period)?;
-    Ok(walk)
+    closed_walk_in(alloc, &mut room, s, period)
 }

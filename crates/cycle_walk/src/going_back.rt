@@ -1,7 +1,9 @@
 //! Going back over walk values from a node whose value grows in the last round.
 
-ghost use Rattle.std.specs.Prelude.{◌≡◌, ℕ, ◌+◌, ◌-◌, ◌*◌, ◌≤◌, ◌<◌, ◌↔◌, ◌+ℤ◌, ◌<ℤ◌, length, unsigned_abs, int_lt, IsTrue};
+ghost use Rattle.std.specs.Prelude.{◌≡◌, ℕ, ◌+◌, ◌-◌, ◌*◌, ◌≤◌, ◌<◌, ◌↔◌, length, IsTrue};
+ghost use Rattle.std.specs.Prelude.{◌+ℤ◌, ◌<ℤ◌, unsigned_abs, int_lt};
 ghost use Rattle.std.specs.Ordering.{int_eq};
+ghost use Rattle.longest_path.specs.Bounds.{IsWithinCap};
 ghost use Rattle.longest_path.specs.Rounds.{weights_at, cell};
 ghost use Rattle.cycle_walk.specs.Values.{AreValues};
 ghost use Rattle.cycle_walk.specs.Closed.{first_below, first_fit, Rises};
@@ -53,7 +55,7 @@ fn fit(
     m: usize,
     j: u32,
 ) -> usize
-    requires period { period ≤ 20001 }
+    requires period { IsWithinCap period }
     requires m { m < s.now.nodes }
     requires j { j < s.now.nodes }
     requires rows { AreValues s.now period s.now.nodes rows.now }
@@ -95,7 +97,7 @@ pub(crate) fn go_back(
     seen: &mut [u32],
     back: &mut [u32],
 ) -> Turn
-    requires period { period ≤ 20001 }
+    requires period { IsWithinCap period }
     requires rows { AreValues s.now period s.now.nodes rows.now }
     requires firsts { length firsts.now ≡ s.now.nodes }
     requires nexts { length nexts.now ≡ length s.now.arcs }

@@ -6,10 +6,12 @@ mod closed_walks;
 mod going_back;
 pub mod laws;
 mod links;
+mod sums;
 #[cfg(test)]
 mod tests;
 mod walks;
 
 pub use climbing::{Climbed, climb, climb_in};
 pub use closed_walks::{closed_walk, closed_walk_in};
-pub use walks::{Walk, refutes};
+pub use sums::Sums;
+pub use walks::Walk;

@@ -6,7 +6,8 @@ ghost use Rattle.cycle_walk.specs.Links.{AreLinks};
 
 use longest_path::System;
 
-// Links the constraints that end at each node, from the first on: `firsts` has the first one a node, `nexts` the next one a constraint, or the number of constraints where there is none.
+// Links the constraints that end at each node, from the first on: `firsts` has the first one a node, `nexts` the next
+// one a constraint, or the number of constraints where there is none.
 pub(crate) fn link(s: &System, firsts: &mut [u32], nexts: &mut [u32])
     requires firsts { length firsts.old ≡ s.now.nodes }
     requires nexts { length nexts.old ≡ length s.now.arcs }

@@ -1,6 +1,6 @@
 ghost use Rattle.std.specs.Prelude.{◌≡◌, ◌-◌, ◌≤◌, unsigned_abs};
 
-use crate::{Climbed, Walk, climb, climb_in, closed_walk, closed_walk_in, refutes};
+use crate::{Climbed, Sums, Walk, climb, climb_in, closed_walk, closed_walk_in};
 use longest_path::{Arc, Room, System};
 use std::alloc::{AllocError, Global};
 use std::test::Fail;
@@ -21,7 +21,7 @@ fn has(walk: &Option<Walk>, arcs: &[u32]) -> bool {
 
 fn has_sums(walk: &Option<Walk>, w: i64, q: i64) -> bool {
     match walk {
-        Some(walk) => walk.w() == w && walk.q() == q,
+        Some(walk) => walk.sums() == Sums { w, q },
         None => false,
     }
 }
@@ -91,7 +91,8 @@ fn loops(alloc: Global, one: Arc, other: Arc) -> Result<System, AllocError>
     Ok(System::new(1, arcs))
 }
 
-// One node with two loops, in one room: fractional periods alone, the first of two equal loops, no loop that asks anything, weights at their ends.
+// One node with two loops, in one room: fractional periods alone, the first of two equal loops, no loop that asks
+// anything, weights at their ends.
 #[test]
 fn two_loops(rt: HostRuntime) -> Result<(), Fail> {
     let alloc = rt.alloc();
@@ -181,6 +182,7 @@ fn refuting(rt: HostRuntime) {
         (-10_000_000_000_000, -10_000_000_000_000, 20_001, false),
         (10_000_000_000_000, -10_000_000_000_000, 1, false),
     ] {
-        assert_eq!(rt; refutes(w, q, period), want);
+        let sums = Sums { w, q };
+        assert_eq!(rt; sums.refutes(period), want);
     }
 }

@@ -1,8 +1,8 @@
 -- Walks of a system that has a solution: no closed walk gains, so short walks are enough.
-use Rattle.std.proofs.Common.{◌≡◌, ℕ, zero, suc, ◌*◌, ◌<◌, ◌≤◌, ⊎_elim, List, [], ◌∷◌, length, drop, length-drop, refl, sym, ap, ◌∙◌, ℤ, pos, ◌+ℤ◌, ◌*ℤ◌, ◌≤ℤ◌, arith}
+use Rattle.std.proofs.Common.{◌≡◌, ℕ, zero, suc, ◌<◌, ◌≤◌, ⊎_elim, List, [], ◌∷◌, length, drop, length-drop, refl, sym, ap, ◌∙◌, ℤ, pos, ◌+ℤ◌, ◌*ℤ◌, ◌≤ℤ◌, arith}
 use Rattle.std.proofs.lemmas.Int.{ints}
 use Rattle.std.proofs.lemmas.Bool.{cases_lt}
-use borrow.Author.Differences.{sum_is_lem}
+use Rattle.list_facts.proofs.Products.{times_add}
 use Rattle.longest_path.specs.System.{SystemData, IsSystem, arc, Solves, Leads, sum_w, sum_q, Refutes}
 use Rattle.longest_path.specs.Rounds.{weights_at, walk_weight}
 use Rattle.longest_path.proofs.Walks.{pigeonhole}
@@ -83,10 +83,6 @@ short_by s wt t i j (suc fuel) ks valid p solves h le =
 -- every walk has one of fewer constraints than nodes that weighs as much
 pub short_enough : (s : SystemData) (wt : ℕ → ℤ) (t : ℕ → ℤ) (i j : ℕ) (ks : List ℕ) → IsSystem s → i < s.nodes → Meets s wt t → Leads s i ks j → (bs : List ℕ) × Leads s i bs j × (length bs < s.nodes) × (walk_weight wt ks ≤ℤ walk_weight wt bs)
 short_enough s wt t i j ks valid p solves h = short_by s wt t i j (length ks) ks valid p solves h (omega arith)
-
--- a sum times a natural number
-pub times_add : (a b : ℤ) (n : ℕ) → (a +ℤ b) *ℤ pos n ≡ a *ℤ pos n +ℤ b *ℤ pos n
-times_add a b n = omega (arith, ints, ap (λ m. m * n) (sum_is_lem a b))
 
 -- the weight by the two sums
 pub weighs_sums : (s : SystemData) (period : ℕ) (ks : List ℕ) → walk_weight (weights_at s period) ks ≡ sum_w s ks +ℤ sum_q s ks *ℤ pos period

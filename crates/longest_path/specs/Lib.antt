@@ -7,3 +7,4 @@ pub mod Laws
 pub mod Room
 pub mod Start
 pub mod Chain
+pub mod Bounds

@@ -2,7 +2,8 @@
 
 ghost use Rattle.longest_path.specs.Laws.{ValuesAreGreatest, RoundsStay, ClosedWalkRefutes, LeastIsOne};
 
-/// The row after m rounds has the greatest weights of walks of at most m constraints over the first row, and after a round that changes nothing it stays.
+/// The row after m rounds has the greatest weights of walks of at most m constraints over the first row, and after a
+/// round that changes nothing it stays.
 pub fn round_laws()
     ensures values { ValuesAreGreatest }
     ensures stay { RoundsStay }

@@ -1,6 +1,7 @@
 //! The pointwise least solution of a system.
 
 ghost use Rattle.std.specs.Prelude.{◌≡◌, ℕ, ◌-◌, ◌*◌, ◌≤◌, ◌<◌, pos, length, IfOk};
+ghost use Rattle.longest_path.specs.Bounds.{IsPeriod};
 ghost use Rattle.longest_path.specs.System.{IsSystem, IsReached};
 ghost use Rattle.longest_path.specs.Rounds.{number, IsTable};
 ghost use Rattle.longest_path.specs.Answer.{IsLeastAnswer, KeepsWithin, HasTicksWithin};
@@ -10,7 +11,8 @@ use crate::settling::settle;
 use crate::{Room, System};
 use std::alloc::{AllocError, Global};
 
-// Stands for a node that no walk has reached yet: below all that walks from node 0 bring, by more than walks bring back.
+// Stands for a node that no walk has reached yet: below all that walks from node 0 bring, by more than walks bring
+// back.
 const FAR: i64 = -10_000_000_000_000_000;
 
 /// What `least` answers: the least ticks, one a node, or that a closed walk gains and no ticks solve the system.
@@ -37,7 +39,7 @@ fn least_within(
     period: u32,
     rows: &mut [i64],
 ) -> Result<LeastTicks, AllocError>
-    requires period { (1 ≤ period) × (period ≤ 20001) }
+    requires period { IsPeriod period }
     requires reached { (i : ℕ) → i < s.now.nodes → IsReached s.now i }
     requires table { IsTable s.now rows.old }
     ensures least { IfOk result (λ answer. IsLeastAnswer s.now period answer) }
@@ -54,35 +56,35 @@ fn least_within(
     Ok(LeastTicks::Feasible(ticks))
 }
 
-/// The pointwise least ticks that solve a system at a period, with 0 at node 0, where node 0 reaches every node; Positive where no ticks solve it.
+/// The pointwise least ticks that solve a system at a period, with 0 at node 0, where node 0 reaches every node;
+/// Positive where no ticks solve it.
 ///
-/// It raises the ticks in place, pass by pass, and stops at the first pass that changes nothing: at most as many passes as nodes, each of one step a constraint. The room is lent and serves again; beside it only the answer takes memory.
+/// It raises the ticks in place, pass by pass, and stops at the first pass that changes nothing: at most as many passes
+/// as nodes, each of one step a constraint. The room is lent and serves again; beside it only the answer takes memory.
 pub fn least_in(
     alloc: Global,
     room: &mut Room,
     s: &System,
     period: u32,
 ) -> Result<LeastTicks, AllocError>
-    requires period { (1 ≤ period) × (period ≤ 20001) }
+    requires period { IsPeriod period }
     requires reached { (i : ℕ) → i < s.now.nodes → IsReached s.now i }
     ensures least { IfOk result (λ answer. IsLeastAnswer s.now period answer) }
     ensures within { IfOk result (λ answer. KeepsWithin s.now period answer) }
     ensures small { IfOk result (λ answer. HasTicksWithin 2500000000000000 answer) }
 {
     room.fit(s)?;
-    let answer = least_within(alloc, s, period, &mut room.rows)?;
-    Ok(answer)
+    least_within(alloc, s, period, &mut room.rows)
 }
 
 /// `least_in` in room of its own.
 pub fn least(alloc: Global, s: &System, period: u32) -> Result<LeastTicks, AllocError>
-    requires period { (1 ≤ period) × (period ≤ 20001) }
+    requires period { IsPeriod period }
     requires reached { (i : ℕ) → i < s.now.nodes → IsReached s.now i }
     ensures least { IfOk result (λ answer. IsLeastAnswer s.now period answer) }
     ensures within { IfOk result (λ answer. KeepsWithin s.now period answer) }
     ensures small { IfOk result (λ answer. HasTicksWithin 2500000000000000 answer) }
 {
     let mut room = Room::new(alloc);
-    let answer = least_in(alloc, &mut room, s, period)?;
-    Ok(answer)
+    least_in(alloc, &mut room, s, period)
 }

@@ -1,4 +1,5 @@
-//! Systems of constraints `t_to - t_from >= w + q * period` between the ticks of nodes, and their pointwise least solutions.
+//! Systems of constraints `t_to - t_from >= w + q * period` between the ticks of nodes, and their pointwise least
+//! solutions.
 #![tactic(auto)]
 
 pub mod laws;

@@ -1,6 +1,7 @@
 //! The constraints of a system packed for the rounds at one period.
 
 ghost use Rattle.std.specs.Prelude.{◌≡◌, ◌≤◌, ◌<◌, length};
+ghost use Rattle.longest_path.specs.Bounds.{IsWithinCap};
 ghost use Rattle.longest_path.specs.Near.{HasNodes, IsClear, IsPacked, Takes, raised_to};
 
 use crate::{Near, Step, System};
@@ -32,7 +33,8 @@ impl Near {
     // Takes a constraint that leads between near nodes: whether it does.
     #[inline]
     fn take(&mut self, from: u32, to: u32, weight: i64) -> bool
-        requires there { (to < length self.old.stay.items) × (to < length self.old.rise.items) × (to < length self.old.fall.items) }
+        requires there { (to < length self.old.stay.items) × (to < length self.old.rise.items)
+            × (to < length self.old.fall.items) }
         requires ends { (from < 124) × (to < 124) }
         ensures { Takes from to weight result self.old self.new }
     {
@@ -53,9 +55,10 @@ impl Near {
     }
 }
 
-// Packs the constraints with their weights at a period: those between near nodes by node, the others one after another. Answers how many others there are.
+// Packs the constraints with their weights at a period: those between near nodes by node, the others one after another.
+// Answers how many others there are.
 pub(crate) fn pack(s: &System, period: u32, near: &mut Near, steps: &mut [Step]) -> usize
-    requires period { period ≤ 20001 }
+    requires period { IsWithinCap period }
     requires near { HasNodes s.now.nodes near.old }
     requires count { length steps.old ≡ length s.now.arcs }
     ensures { IsPacked s.now period (length s.now.arcs) result near.new steps.new }

@@ -30,7 +30,8 @@ pub struct Near {
 
 /// Room that the rounds of many calls use one after another.
 ///
-/// Its numbers mean nothing between two calls: any room serves any system, whatever was left in it, and a call gives it the lengths that its system needs.
+/// Its numbers mean nothing between two calls: any room serves any system, whatever was left in it, and a call gives it
+/// the lengths that its system needs.
 #[derive(Debug, Drop)]
 pub struct Room {
     /// The constraints between near nodes at one period.
@@ -52,7 +53,8 @@ pub struct Room {
 impl Room {
     /// Empty room, which takes no memory yet.
     pub fn new(alloc: Global) -> Room
-        ensures { (result.steps.items ≡ []) × (result.rows.items ≡ []) × (result.seen.items ≡ []) × (result.back.items ≡ []) }
+        ensures { (result.steps.items ≡ []) × (result.rows.items ≡ []) × (result.seen.items ≡ [])
+            × (result.back.items ≡ []) }
     {
         Room {
             near: Near {
@@ -69,7 +71,8 @@ impl Room {
         }
     }
 
-    /// Gives the room the lengths that a system needs: a number a constraint or a node, and nodes + 1 rows. Where it shrinks its memory stays.
+    /// Gives the room the lengths that a system needs: a number a constraint or a node, and nodes + 1 rows. Where it
+    /// shrinks its memory stays.
     pub fn fit(&mut self, s: &System) -> Result<(), AllocError>
         ensures { OnOk result (HasRoom s.now self.new) }
     {

@@ -1,7 +1,9 @@
 //! Rounds of relaxation.
 
-ghost use Rattle.std.specs.Prelude.{◌≡◌, ℕ, ◌+◌, ◌-◌, ◌*◌, ◌≤◌, ◌<◌, ◌+ℤ◌, ◌<ℤ◌, ◌≤ℤ◌, length, suc, pos, false, unsigned_abs, IsTrue};
+ghost use Rattle.std.specs.Prelude.{◌≡◌, ℕ, ◌+◌, ◌-◌, ◌*◌, ◌≤◌, ◌<◌, length, suc, false, IsTrue};
+ghost use Rattle.std.specs.Prelude.{◌+ℤ◌, ◌<ℤ◌, ◌≤ℤ◌, pos, unsigned_abs};
 ghost use Rattle.std.specs.Int.{int_max};
+ghost use Rattle.longest_path.specs.Bounds.{IsWithinCap};
 ghost use Rattle.longest_path.specs.Rounds.{weights_at, value_from, number, cell, IsTable, BeginsSmall, AreRows};
 ghost use Rattle.longest_path.specs.Steps.{FitNodes, IsRound};
 ghost use Rattle.longest_path.specs.Near.{HasNodes, AreSmall, IsNearest, IsMade};
@@ -24,8 +26,10 @@ fn greater(now: i64, stay: i64, other: i64, weight: i64) -> i64
 // The greatest of what a node has from itself, from the node before it, and from the node behind it.
 #[inline]
 fn greatest(now: i64, stay: i64, before: i64, rise: i64, behind: i64, fall: i64) -> i64
-    requires row { (unsigned_abs now ≤ 40000000000000000) × (unsigned_abs before ≤ 40000000000000000) × (unsigned_abs behind ≤ 40000000000000000) }
-    requires weights { (unsigned_abs stay ≤ 100000000000000000) × (unsigned_abs rise ≤ 100000000000000000) × (unsigned_abs fall ≤ 100000000000000000) }
+    requires row { (unsigned_abs now ≤ 40000000000000000) × (unsigned_abs before ≤ 40000000000000000)
+        × (unsigned_abs behind ≤ 40000000000000000) }
+    requires weights { (unsigned_abs stay ≤ 100000000000000000) × (unsigned_abs rise ≤ 100000000000000000)
+        × (unsigned_abs fall ≤ 100000000000000000) }
     ensures value { result ≡ int_max (int_max (now +ℤ stay) (before +ℤ rise)) (behind +ℤ fall) }
     ensures small { unsigned_abs result ≤ 200000000000000000 }
 {
@@ -33,14 +37,16 @@ fn greatest(now: i64, stay: i64, before: i64, rise: i64, behind: i64, fall: i64)
     most.max(behind + fall)
 }
 
-// Brings each node between two others the greatest that near constraints bring it from `old`; the compiled loop takes several nodes at a time.
+// Brings each node between two others the greatest that near constraints bring it from `old`; the compiled loop takes
+// several nodes at a time.
 fn bring_between(near: &Near, old: &[i64], new: &mut [i64])
     requires some { 0 < length old.now }
     requires near { HasNodes (length old.now) near.now × AreSmall near.now }
     requires new { length new.old ≡ length old.now }
     requires small { (j : ℕ) → unsigned_abs (number old.now j) ≤ 40000000000000000 }
     ensures len { length new.new ≡ length old.now }
-    ensures row { (i : ℕ) → 0 < i → suc i < length old.now → IsNearest (length old.now) near.now (number old.now) i (number new.new i) }
+    ensures row { (i : ℕ) → 0 < i → suc i < length old.now
+        → IsNearest (length old.now) near.now (number old.now) i (number new.new i) }
 {
     let stay = near.stay.as_slice();
     let rise = near.rise.as_slice();
@@ -58,7 +64,8 @@ fn bring_ends(near: &Near, old: &[i64], new: &mut [i64])
     requires small { (j : ℕ) → unsigned_abs (number old.now j) ≤ 40000000000000000 }
     ensures len { length new.new ≡ length old.now }
     ensures first { IsNearest (length old.now) near.now (number old.now) 0 (number new.new 0) }
-    ensures last { (i : ℕ) → suc i ≡ length old.now → IsNearest (length old.now) near.now (number old.now) i (number new.new i) }
+    ensures last { (i : ℕ) → suc i ≡ length old.now
+        → IsNearest (length old.now) near.now (number old.now) i (number new.new i) }
     ensures between { (i : ℕ) → 0 < i → suc i < length old.now → number new.new i ≡ number new.old i }
 {
     let stay = near.stay.as_slice();
@@ -89,7 +96,8 @@ fn bring_near(near: &Near, old: &[i64], new: &mut [i64])
     requires new { length new.old ≡ length old.now }
     requires small { (j : ℕ) → unsigned_abs (number old.now j) ≤ 40000000000000000 }
     ensures len { length new.new ≡ length old.now }
-    ensures row { (i : ℕ) → i < length old.now → IsNearest (length old.now) near.now (number old.now) i (number new.new i) }
+    ensures row { (i : ℕ) → i < length old.now
+        → IsNearest (length old.now) near.now (number old.now) i (number new.new i) }
 {
     if old.len() == 1 {
         bring_alone(near, old, new);
@@ -106,7 +114,8 @@ fn bring(steps: &[Step], count: usize, old: &[i64], new: &mut [i64])
     requires small { (i : ℕ) → unsigned_abs (number old.now i) ≤ 40000000000000000 }
     requires begins { (i : ℕ) → i < length old.now → unsigned_abs (number new.old i) ≤ 200000000000000000 }
     ensures len { length new.new ≡ length old.now }
-    ensures row { (i : ℕ) → i < length old.now → IsRound steps.now count (number old.now) i (number new.old i) (number new.new i) }
+    ensures row { (i : ℕ) → i < length old.now
+        → IsRound steps.now count (number old.now) i (number new.old i) (number new.new i) }
 {
     for k in 0..count {
         let step = steps[k];
@@ -124,7 +133,8 @@ fn relax(near: &Near, steps: &[Step], count: usize, old: &[i64], new: &mut [i64]
     requires new { length new.old ≡ length old.now }
     requires small { (i : ℕ) → unsigned_abs (number old.now i) ≤ 40000000000000000 }
     ensures len { length new.new ≡ length old.now }
-    ensures row { (i : ℕ) → i < length old.now → IsMade (length old.now) near.now steps.now count (number old.now) i (number new.new i) }
+    ensures row { (i : ℕ) → i < length old.now
+        → IsMade (length old.now) near.now steps.now count (number old.now) i (number new.new i) }
 {
     bring_near(near, old, new);
     bring(steps, count, old, new);
@@ -161,9 +171,13 @@ fn next_row(
     requires small { (i : ℕ) → i < s.now.nodes → unsigned_abs (cell s.now.nodes rows.old m i) ≤ 20000000000000000 }
     ensures table { IsTable s.now rows.new }
     ensures kept { (r i : ℕ) → r ≤ m → i < s.now.nodes → cell s.now.nodes rows.new r i ≡ cell s.now.nodes rows.old r i }
-    ensures made { (i : ℕ) → i < s.now.nodes → IsMade s.now.nodes near.now steps.now count (cell s.now.nodes rows.old m) i (cell s.now.nodes rows.new (m + 1) i) }
-    ensures still { result ≡ false → (i : ℕ) → i < s.now.nodes → cell s.now.nodes rows.new (m + 1) i ≡ cell s.now.nodes rows.old m i }
-    ensures grown { IsTrue result → (i : ℕ) × (i < s.now.nodes) × (cell s.now.nodes rows.old m i <ℤ cell s.now.nodes rows.new (m + 1) i) }
+    ensures made { (i : ℕ) → i < s.now.nodes
+        → IsMade s.now.nodes near.now steps.now count (cell s.now.nodes rows.old m) i
+        (cell s.now.nodes rows.new (m + 1) i) }
+    ensures still { result ≡ false → (i : ℕ) → i < s.now.nodes
+        → cell s.now.nodes rows.new (m + 1) i ≡ cell s.now.nodes rows.old m i }
+    ensures grown { IsTrue result → (i : ℕ) × (i < s.now.nodes)
+        × (cell s.now.nodes rows.old m i <ℤ cell s.now.nodes rows.new (m + 1) i) }
 {
     let n = s.nodes() as usize;
     let (done, rest) = rows.split_at_mut((m + 1) * n);
@@ -179,7 +193,7 @@ fn fill_rows(
     steps: &mut [Step],
     rows: &mut [i64],
 ) -> usize
-    requires period { period ≤ 20001 }
+    requires period { IsWithinCap period }
     requires near { HasNodes s.now.nodes near.old }
     requires steps { length steps.old ≡ length s.now.arcs }
     requires table { IsTable s.now rows.old }
@@ -187,8 +201,12 @@ fn fill_rows(
     ensures near { HasNodes s.now.nodes near.new }
     ensures within { result ≤ s.now.nodes }
     ensures rows { AreRows s.now period (cell s.now.nodes rows.old 0) result rows.new }
-    ensures still { result < s.now.nodes → (i : ℕ) → i < s.now.nodes → value_from s.now (weights_at s.now period) (cell s.now.nodes rows.old 0) (suc result) i ≡ value_from s.now (weights_at s.now period) (cell s.now.nodes rows.old 0) result i }
-    ensures grown { result ≡ s.now.nodes → (i : ℕ) × (i < s.now.nodes) × (value_from s.now (weights_at s.now period) (cell s.now.nodes rows.old 0) (s.now.nodes - 1) i <ℤ value_from s.now (weights_at s.now period) (cell s.now.nodes rows.old 0) s.now.nodes i) }
+    ensures still { result < s.now.nodes → (i : ℕ) → i < s.now.nodes
+        → value_from s.now (weights_at s.now period) (cell s.now.nodes rows.old 0) (suc result) i
+        ≡ value_from s.now (weights_at s.now period) (cell s.now.nodes rows.old 0) result i }
+    ensures grown { result ≡ s.now.nodes → (i : ℕ) × (i < s.now.nodes)
+        × (value_from s.now (weights_at s.now period) (cell s.now.nodes rows.old 0) (s.now.nodes - 1) i
+        <ℤ value_from s.now (weights_at s.now period) (cell s.now.nodes rows.old 0) s.now.nodes i) }
 {
     let count = pack(s, period, near, steps);
     let n = s.nodes() as usize;
@@ -200,18 +218,24 @@ fn fill_rows(
     n
 }
 
-/// Fills the table of a room's rows round by round from row 0, and answers how many rounds changed a node before one that changed none; at most as many rounds as there are nodes.
+/// Fills the table of a room's rows round by round from row 0, and answers how many rounds changed a node before one
+/// that changed none; at most as many rounds as there are nodes.
 ///
-/// A round takes one step a constraint, and there are at most as many rounds as nodes; it takes no memory. The weights are reckoned once.
+/// A round takes one step a constraint, and there are at most as many rounds as nodes; it takes no memory. The weights
+/// are reckoned once.
 pub fn fill(s: &System, period: u32, room: &mut Room) -> usize
-    requires period { period ≤ 20001 }
+    requires period { IsWithinCap period }
     requires room { HasRoom s.now room.old }
     requires small { BeginsSmall s.now room.old.rows.items }
     ensures room { HasRoom s.now room.new }
     ensures within { result ≤ s.now.nodes }
     ensures rows { AreRows s.now period (cell s.now.nodes room.old.rows.items 0) result room.new.rows.items }
-    ensures still { result < s.now.nodes → (i : ℕ) → i < s.now.nodes → value_from s.now (weights_at s.now period) (cell s.now.nodes room.old.rows.items 0) (suc result) i ≡ value_from s.now (weights_at s.now period) (cell s.now.nodes room.old.rows.items 0) result i }
-    ensures grown { result ≡ s.now.nodes → (i : ℕ) × (i < s.now.nodes) × (value_from s.now (weights_at s.now period) (cell s.now.nodes room.old.rows.items 0) (s.now.nodes - 1) i <ℤ value_from s.now (weights_at s.now period) (cell s.now.nodes room.old.rows.items 0) s.now.nodes i) }
+    ensures still { result < s.now.nodes → (i : ℕ) → i < s.now.nodes
+        → value_from s.now (weights_at s.now period) (cell s.now.nodes room.old.rows.items 0) (suc result) i
+        ≡ value_from s.now (weights_at s.now period) (cell s.now.nodes room.old.rows.items 0) result i }
+    ensures grown { result ≡ s.now.nodes → (i : ℕ) × (i < s.now.nodes)
+        × (value_from s.now (weights_at s.now period) (cell s.now.nodes room.old.rows.items 0) (s.now.nodes - 1) i
+        <ℤ value_from s.now (weights_at s.now period) (cell s.now.nodes room.old.rows.items 0) s.now.nodes i) }
     ensures links { (room.new.firsts ≡ room.old.firsts) × (room.new.nexts ≡ room.old.nexts) }
 {
     fill_rows(s, period, &mut room.near, &mut room.steps, &mut room.rows)

@@ -1,6 +1,7 @@
 //! Relaxation in place, which settles in a few passes where there are solutions.
 
 ghost use Rattle.std.specs.Prelude.{◌≡◌, ℕ, ◌+◌, ◌≤◌, ◌<◌, ◌≤ℤ◌, ◌<ℤ◌, length, pos, false, unsigned_abs, IsTrue};
+ghost use Rattle.longest_path.specs.Bounds.{IsWithinCap};
 ghost use Rattle.longest_path.specs.System.{IsSystem, HasNoSolution};
 ghost use Rattle.longest_path.specs.Rounds.{number};
 ghost use Rattle.longest_path.specs.Steps.{IsRaised, IsSettled};
@@ -14,7 +15,7 @@ const MOST: i64 = 20_000_000_000_000_000;
 // Raises a row in place: each end, one after another, to what its constraint brings it.
 fn raise(s: &System, period: u32, row: &mut [i64])
     requires valid { IsSystem s.now }
-    requires period { period ≤ 20001 }
+    requires period { IsWithinCap period }
     requires row { length row.old ≡ s.now.nodes }
     requires small { (i : ℕ) → i < s.now.nodes → unsigned_abs (number row.old i) ≤ 20000000000000000 }
     ensures len { length row.new ≡ length row.old }
@@ -50,9 +51,10 @@ fn passes_most(row: &[i64]) -> bool
     false
 }
 
-// Raises a row pass by pass until one changes nothing: true. False where no ticks solve the system, which as many passes as nodes show, or a number that no walks bring.
+// Raises a row pass by pass until one changes nothing: true. False where no ticks solve the system, which as many
+// passes as nodes show, or a number that no walks bring.
 pub(crate) fn settle(s: &System, period: u32, row: &mut [i64], before: &mut [i64]) -> bool
-    requires period { period ≤ 20001 }
+    requires period { IsWithinCap period }
     requires row { length row.old ≡ s.now.nodes }
     requires before { length before.old ≡ s.now.nodes }
     requires small { (i : ℕ) → i < s.now.nodes → unsigned_abs (number row.old i) ≤ 10000000000000000 }

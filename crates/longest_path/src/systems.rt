@@ -1,6 +1,8 @@
 //! Constraints and systems of them.
 
-ghost use Rattle.std.specs.Prelude.{◌≡◌, ℕ, ◌≤◌, ◌<◌, List, [], ◌∷◌, ◌++◌, length, take, slice_set, true, unsigned_abs, IfOk, OnOk, OnErr};
+ghost use Rattle.std.specs.Prelude.{◌≡◌, ℕ, ◌≤◌, ◌<◌, true, unsigned_abs, IfOk, OnOk, OnErr};
+ghost use Rattle.std.specs.Prelude.{List, [], ◌∷◌, ◌++◌, length, take, slice_set};
+ghost use Rattle.longest_path.specs.Bounds.{IsWithinCap};
 ghost use Rattle.longest_path.specs.System.{IsSystem, IsArc, weight};
 
 use std::alloc::{AllocError, Global};
@@ -19,7 +21,7 @@ impl Arc {
     /// What the constraint asks at a period, in ticks.
     pub fn weight(self, period: u32) -> i64
         requires sizes { (unsigned_abs self.w ≤ 10000000) × (unsigned_abs self.q ≤ 1000000000) }
-        requires period { period ≤ 20001 }
+        requires period { IsWithinCap period }
         ensures value { result ≡ weight self period }
         ensures small { unsigned_abs result ≤ 30000000000000 }
     {
@@ -29,7 +31,8 @@ impl Arc {
 
 /// Constraints in their order between the ticks of the nodes 0 to `nodes - 1`.
 ///
-/// There are 1 to 124 nodes and at most 30,000 constraints; the size of w is at most 10,000,000 ticks, that of q at most 1,000,000,000 periods.
+/// There are 1 to 124 nodes and at most 30,000 constraints; the size of w is at most 10,000,000 ticks, that of q at
+/// most 1,000,000,000 periods.
 #[derive(Debug, Drop)]
 pub struct System {
     nodes: u32,
