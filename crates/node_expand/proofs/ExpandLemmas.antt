@@ -13,14 +13,14 @@ use Rattle.cycle_walk.specs.declared.climbing.Climbed.TheVariants.{Floor, Shut}
 use Rattle.choice_tree.specs.declared.question.Decision.{Decision}
 use Rattle.choice_tree.specs.declared.constraint.Constraint.{Constraint}
 use Rattle.choice_tree.specs.declared.constraint.Constraint.TheVariants.{Entry}
-use Rattle.period_constraints.specs.Constraints.{constraint_list, arc_of}
-use Rattle.period_constraints.specs.Places.{system_below}
-use Rattle.period_constraints.specs.Proves.{RefuteBelow}
-use Rattle.period_constraints.specs.Questions.{FitsPath}
+use Rattle.path_constraints.specs.Constraints.{constraint_list, arc_of}
+use Rattle.path_constraints.specs.Places.{system_below}
+use Rattle.path_constraints.specs.Proves.{RefuteBelow}
+use Rattle.path_constraints.specs.Questions.{FitsPath}
 use Rattle.period_constraints.specs.Order.{IsFirstQuestion}
-use Rattle.period_constraints.specs.Ticks.{tick_at}
-use Rattle.period_constraints.proofs.PairLemmas.{keeps_all}
+use Rattle.path_constraints.specs.Ticks.{tick_at}
 use Rattle.std.proofs.lemmas.List.{length-map}
+use Rattle.path_constraints.proofs.SpreadLemmas.{keeps_all}
 use Rattle.node_expand.specs.Expansion.{named}
 use Rattle.node_expand.specs.Plannable.{Settles, IsPlannable}
 use Rattle.node_expand.specs.Shown.{IsShortWalk}
@@ -31,12 +31,20 @@ use Rattle.node_expand.proofs.FloorLemmas.{not_one}
 -- ---- names
 
 -- a walk's constraints have names
-pub names_there : (l : LineData) (path : List Decision) (names : List Constraint) (walk : WalkData) → names ≡ constraint_list l path → closed.IsClosedWalk (system_below l path) walk
+pub names_there : (l : LineData) (path : List Decision) (names : List Constraint) (walk : WalkData) → names ≡ constraint_list l path
+    → closed.IsClosedWalk (system_below l path) walk
     → (k : ℕ) → k < length walk.arcs → get_or walk.arcs k 0 < length names
 names_there l path names walk is h k lt =
-    omega (arith, walk_there (system_below l path) h.node walk.arcs h.node h.leads k lt, ap (λ (ts : List Constraint). length ts) is, length-map (constraint_list l path) (arc_of l path))
+    omega (
+      arith,
+      walk_there (system_below l path) h.node walk.arcs h.node h.leads k lt,
+      ap (λ (ts : List Constraint). length ts) is,
+      length-map
+          (constraint_list l path) (arc_of l path),
+    )
 
-pub some_names_there : (l : LineData) (path : List Decision) (names : List Constraint) (walk : Option WalkData) → names ≡ constraint_list l path → IfSome walk (closed.IsClosedWalk (system_below l path))
+pub some_names_there : (l : LineData) (path : List Decision) (names : List Constraint) (walk : Option WalkData) → names ≡ constraint_list l path
+    → IfSome walk (closed.IsClosedWalk (system_below l path))
     → IfSome walk (λ w. (k : ℕ) → k < length w.arcs → get_or w.arcs k 0 < length names)
 some_names_there l path names None is h = tt
 some_names_there l path names (Some walk) is h = names_there l path names walk is h
@@ -45,7 +53,8 @@ pub names_are : (l : LineData) (path : List Decision) (names : List Constraint) 
     → proof ≡ map (λ k. get_or names k (Entry 0)) walk.arcs → proof ≡ named l path walk
 names_are l path names walk proof is made = made ∙ ap (λ (ts : List Constraint). map (λ k. get_or ts k (Entry 0)) walk.arcs) is
 
-pub some_names_are : (l : LineData) (path : List Decision) (names : List Constraint) (walk : Option WalkData) (proof : Option (List Constraint)) → names ≡ constraint_list l path
+pub some_names_are : (l : LineData) (path : List Decision) (names : List Constraint) (walk : Option WalkData) (proof : Option (List Constraint))
+    → names ≡ constraint_list l path
     → proof ≡ option_map (λ w. map (λ k. get_or names k (Entry 0)) w.arcs) walk → proof ≡ names_of l path walk
 some_names_are l path names walk proof is made =
     made ∙ ap (λ (ts : List Constraint). option_map (λ (w : WalkData). map (λ k. get_or ts k (Entry 0)) w.arcs) walk) is
@@ -57,7 +66,8 @@ pub record IsShutAt (l : LineData) (path : List Decision) (cap : ℕ) (low high 
   pub high_closed : IfSome high (closed.IsClosedWalk (system_below l path))
   pub gives : (t : ℕ) → 1 ≤ t → t < cap → Gives low t ⊎ Gives high t
 
-pub shut_at : (l : LineData) (path : List Decision) (cap : ℕ) (s : SystemData) (x : Climbed) (low high : Option WalkData) → s ≡ system_below l path → x ≡ Shut low high → AreRefuted cap x → AllWalks (closed.IsClosedWalk s) x
+pub shut_at : (l : LineData) (path : List Decision) (cap : ℕ) (s : SystemData) (x : Climbed) (low high : Option WalkData) → s ≡ system_below l path
+    → x ≡ Shut low high → AreRefuted cap x → AllWalks (closed.IsClosedWalk s) x
     → IsShutAt l path cap low high
 shut_at l path cap s x low high e is refuted walks =
     let P : SystemData → Type 0 = λ y. AllWalks (closed.IsClosedWalk y) x in
@@ -66,14 +76,16 @@ shut_at l path cap s x low high e is refuted walks =
     let both = subst Q is (subst P e walks) in
     record { low_closed = both.0; high_closed = both.1; gives = subst R is refuted }
 
-pub shut_shows : (l : LineData) (path : List Decision) (cap : ℕ) (low high : Option WalkData) (low_names high_names : Option (List Constraint)) → IsShutAt l path cap low high → low_names ≡ names_of l path low → high_names ≡ names_of l path high
+pub shut_shows : (l : LineData) (path : List Decision) (cap : ℕ) (low high : Option WalkData) (low_names high_names : Option (List Constraint))
+    → IsShutAt l path cap low high → low_names ≡ names_of l path low → high_names ≡ names_of l path high
     → RefuteBelow l path (option_to_list low_names ++ option_to_list high_names) cap
 shut_shows l path cap low high low_names high_names h is_low is_high =
     let P : Option (List Constraint) → Type 0 = λ o. RefuteBelow l path (option_to_list o ++ option_to_list (names_of l path high)) cap in
     let Q : Option (List Constraint) → Type 0 = λ o. RefuteBelow l path (option_to_list low_names ++ option_to_list o) cap in
     subst Q (sym is_high) (subst P (sym is_low) (refute_two l path low high cap h.low_closed h.high_closed h.gives))
 
-short_names : (l : LineData) (path : List Decision) (walk : Option WalkData) → IfSome walk (closed.IsClosedWalk (system_below l path)) → IfSome (names_of l path walk) IsShortWalk
+short_names : (l : LineData) (path : List Decision) (walk : Option WalkData) → IfSome walk (closed.IsClosedWalk (system_below l path))
+    → IfSome (names_of l path walk) IsShortWalk
 short_names l path None h = tt
 short_names l path (Some walk) h = short_named l path walk h
 
@@ -81,12 +93,14 @@ given : (l : LineData) (path : List Decision) (walk : Option WalkData) (t : ℕ)
 given l path None t h = absurd h
 given l path (Some walk) t h = refl
 
-pub shut_few : (l : LineData) (path : List Decision) (cap : ℕ) (low high : Option WalkData) (low_names high_names : Option (List Constraint)) → 2 ≤ cap → IsShutAt l path cap low high → low_names ≡ names_of l path low → high_names ≡ names_of l path high
+pub shut_few : (l : LineData) (path : List Decision) (cap : ℕ) (low high : Option WalkData) (low_names high_names : Option (List Constraint)) → 2 ≤ cap
+    → IsShutAt l path cap low high → low_names ≡ names_of l path low → high_names ≡ names_of l path high
     → (IsSome low_names ⊎ IsSome high_names) × IfSome low_names IsShortWalk × IfSome high_names IsShortWalk
 shut_few l path cap low high low_names high_names some h is_low is_high =
     let P : Option (List Constraint) → Type 0 = λ o. IfSome o IsShortWalk in
     let Q : Option (List Constraint) → Type 0 = λ o. IsSome o in (
-      ⊎_elim (λ g. inl (subst Q (sym is_low) (given l path low 1 g))) (λ g. inr (subst Q (sym is_high) (given l path high 1 g))) (h.gives 1 (omega arith) (omega (arith, some))),
+      ⊎_elim (λ g. inl (subst Q (sym is_low) (given l path low 1 g))) (λ g. inr (subst Q (sym is_high) (given l path high 1 g)))
+          (h.gives 1 (omega arith) (omega (arith, some))),
       subst P (sym is_low) (short_names l path low h.low_closed),
       subst P (sym is_high) (short_names l path high h.high_closed),
     )
@@ -100,7 +114,8 @@ pub record IsFloorAt (l : LineData) (path : List Decision) (cap period : ℕ) (l
   pub walk_closed : IfSome low (closed.IsClosedWalk (system_below l path))
   pub gives : (t : ℕ) → 1 ≤ t → t < period → Gives low t
 
-pub floor_at : (l : LineData) (path : List Decision) (cap : ℕ) (s : SystemData) (x : Climbed) (period : ℕ) (low : Option WalkData) → s ≡ system_below l path → x ≡ Floor period low
+pub floor_at : (l : LineData) (path : List Decision) (cap : ℕ) (s : SystemData) (x : Climbed) (period : ℕ) (low : Option WalkData) → s ≡ system_below l path
+    → x ≡ Floor period low
     → IsLeastFeasible s cap x → AreRefuted cap x → AllWalks (closed.IsClosedWalk s) x → IsFloorAt l path cap period low
 floor_at l path cap s x period low e is least refuted walks =
     let P : SystemData → Type 0 = λ y. AllWalks (closed.IsClosedWalk y) x in
@@ -120,13 +135,17 @@ walk_is_there l path cap period low line h none =
     let Q : ℕ → Type 0 = λ t. IsFeasible (system_below l path) t in
     not_one l path line (subst Q one h.feasible)
 
-pub floor_closed : (l : LineData) (path : List Decision) (cap period : ℕ) (low : Option WalkData) (walk : WalkData) → IsFloorAt l path cap period low → low ≡ Some walk → closed.IsClosedWalk (system_below l path) walk
-floor_closed l path cap period low walk h is = let P : Option WalkData → Type 0 = λ o. IfSome o (closed.IsClosedWalk (system_below l path)) in subst P is h.walk_closed
+pub floor_closed : (l : LineData) (path : List Decision) (cap period : ℕ) (low : Option WalkData) (walk : WalkData) → IsFloorAt l path cap period low
+    → low ≡ Some walk → closed.IsClosedWalk (system_below l path) walk
+floor_closed l path cap period low walk h is =
+    let P : Option WalkData → Type 0 = λ o. IfSome o (closed.IsClosedWalk (system_below l path)) in subst P is h.walk_closed
 
 -- ---- solved
 
-pub plannable : (l : LineData) (path : List Decision) (period : ℕ) (ticks : List ℤ) (s : Solved) → IsLine l → FitsPath l path → 1 ≤ period → period ≤ 20000 → IsLeastSolution (system_below l path) period ticks
-    → IsFirstQuestion l path (tick_at ticks) period None → s.period ≡ period → s.ticks ≡ ticks → Settles l path s → IsRoute l s.tanks → length s.hoists ≡ move_count l → IsPlannable l s
+pub plannable : (l : LineData) (path : List Decision) (period : ℕ) (ticks : List ℤ) (s : Solved) → IsLine l → FitsPath l path → 1 ≤ period → period ≤ 20000
+    → IsLeastSolution (system_below l path) period ticks
+    → IsFirstQuestion l path (tick_at ticks) period None → s.period ≡ period → s.ticks ≡ ticks → Settles l path s → IsRoute l s.tanks
+    → length s.hoists ≡ move_count l → IsPlannable l s
 plannable l path period ticks s line fits some small least none is_period is_ticks settles route count =
     let P : ℕ → Type 0 = λ t. IsLeastSolution (system_below l path) t s.ticks × IsFirstQuestion l path (tick_at s.ticks) t None in
     let Q : List ℤ → Type 0 = λ ts. IsLeastSolution (system_below l path) period ts × IsFirstQuestion l path (tick_at ts) period None in

@@ -4,9 +4,9 @@ use Rattle.std.specs.Prelude.{Option, flat_map, fold, negsuc, unsigned_abs}
 use Rattle.std.proofs.lemmas.Bool.{cases_lt, ne_eqb}
 use Rattle.std.proofs.lemmas.Int.{ints}
 use Rattle.std.proofs.lemmas.List.{get_or_past, length-map}
-use Rattle.std.proofs.lemmas.Nat.{mul-le, div-add-mod', mod_below}
-use Rattle.hoist_base.specs.LineData.{LineData, stage, last_stage, last_step, move_number, move_count, IsMove}
+use Rattle.hoist_base.specs.LineData.{LineData, stage, last_stage, last_step, move_number, move_count, move_at, IsMove}
 use Rattle.hoist_base.specs.Valid.{IsLine}
+use Rattle.hoist_base.proofs.NumberLemmas.{row_below, move_there, number_of_move}
 use Rattle.line_model.specs.declared.motion.Motion.{Motion}
 use Rattle.line_model.specs.Motion.{motion_between}
 use Rattle.longest_path.specs.declared.systems.Arc.{Arc}
@@ -15,13 +15,12 @@ use Rattle.cycle_walk.specs.Closed.{IsFeasible}
 use Rattle.choice_tree.specs.declared.question.Decision.{Decision}
 use Rattle.choice_tree.specs.declared.constraint.Constraint.{Constraint}
 use Rattle.choice_tree.specs.declared.constraint.Constraint.TheVariants.{Min, Entry, Repeat}
-use Rattle.period_constraints.specs.Tanks.{choice_of, tanks_by, tanks_below, motions_below, there_and_back, least_of, back}
-use Rattle.period_constraints.specs.Constraints.{IsConstraint, constraint_list, arc_of, arcs_of, entry_arc}
-use Rattle.period_constraints.specs.Places.{system_below}
-use Rattle.period_constraints.specs.Ticks.{tick_at, AreTicks}
-use Rattle.period_constraints.proofs.NameLemmas.{place_in, in_list}
-use Rattle.period_constraints.proofs.SpreadLemmas.{spread}
-use Rattle.period_constraints.proofs.PairLemmas.{keeps_all}
+use Rattle.path_constraints.specs.Tanks.{choice_of, tanks_by, tanks_below, motions_below, there_and_back, least_of, back}
+use Rattle.path_constraints.specs.Constraints.{IsConstraint, constraint_list, arc_of, arcs_of, entry_arc}
+use Rattle.path_constraints.specs.Places.{system_below}
+use Rattle.path_constraints.specs.Ticks.{tick_at, AreTicks}
+use Rattle.path_constraints.proofs.NameLemmas.{place_in, in_list}
+use Rattle.path_constraints.proofs.SpreadLemmas.{keeps_all, spread}
 use Rattle.node_expand.proofs.WalkLemmas.{arc_named}
 
 -- ---- no period below 2
@@ -79,7 +78,8 @@ not_one l path line (t, solves) =
 
 -- ---- node 0 reaches every node
 
-on : (l : LineData) (path : List Decision) (t : Constraint) (i j : ℕ) → IsLine l → IsConstraint l path t → (arc_of l path t).from ≡ i → (arc_of l path t).to ≡ j → IsReached (system_below l path) i → IsReached (system_below l path) j
+on : (l : LineData) (path : List Decision) (t : Constraint) (i j : ℕ) → IsLine l → IsConstraint l path t → (arc_of l path t).from ≡ i → (arc_of l path t).to ≡ j
+    → IsReached (system_below l path) i → IsReached (system_below l path) j
 on l path t i j line is from to r =
     let at = place_in (constraint_list l path) t (Entry 0) (in_list l path t line.limits.stages.0 is) in
     let lt : at.0 < length (arcs_of l path) = omega (arith, at.1, length-map (constraint_list l path) (arc_of l path)) in
@@ -97,53 +97,54 @@ carrier_reached l path (suc c) line lt =
     let last : Arc = record { from = move_number l c 0; to = 0; w = pos (l.load + (stage l 0).lift); q = negsuc 0 } in
     let is : entry_arc l c ≡ arc = ap (λ (b : Bool). cond b last arc) (ne_eqb (c + 1) l.degree inner) in
     let to : (entry_arc l c).to ≡ move_number l (suc c) 0 = ap (λ (a : Arc). a.to) is ∙ ap (λ (m : ℕ). move_number l m 0) (sym n) in
-    on l path (Entry c) (move_number l c 0) (move_number l (suc c) 0) line (omega (arith, lt)) (ap (λ (a : Arc). a.from) is) to (carrier_reached l path c line (omega (arith, lt)))
+    on l path (Entry c) (move_number l c 0) (move_number l (suc c) 0) line (omega (arith, lt)) (ap (λ (a : Arc). a.from) is) to
+    (carrier_reached l path c line (omega (arith, lt)))
 
 move_reached : (l : LineData) (path : List Decision) (c k : ℕ) → IsLine l → c < l.degree → k ≤ last_step l → IsReached (system_below l path) (move_number l c k)
 move_reached l path c zero line lt few = carrier_reached l path c line lt
 move_reached l path c (suc k) line lt few =
     let before : suc k - 1 ≡ k = omega arith in
     let from : (arc_of l path (Min c (suc k))).from ≡ move_number l c k = ap (λ (j : ℕ). move_number l c j) before in
-    on l path (Min c (suc k)) (move_number l c k) (move_number l c (suc k)) line (lt, omega arith, few) from refl (move_reached l path c k line lt (omega (arith, few)))
+    on l path (Min c (suc k)) (move_number l c k) (move_number l c (suc k)) line (lt, omega arith, few) from refl
+    (move_reached l path c k line lt (omega (arith, few)))
 
--- a node by its carrier and step
+-- a node by its carrier and step, in the words of the numbers of moves
 pub carrier_there : (i d m : ℕ) → 0 < m → i < d * m → i / m < d
 carrier_there i d m some lt =
-    ⊎_elim (λ less. less) (λ more. let most = mul-le d m (i / m) m more (omega arith) in absurd (omega (arith, lt, most, div-add-mod' i m))) (cases_lt (i / m) d)
+    row_below i d m some lt
 
 pub node_is : (l : LineData) (i : ℕ) → 0 < last_stage l → i ≡ move_number l (i / last_stage l) (i % last_stage l)
-node_is l i some = omega (arith, div-add-mod' i (last_stage l))
+node_is l i some = sym (number_of_move l i)
 
 pub node_move : (l : LineData) (i : ℕ) → IsLine l → i < move_count l → IsMove l (i / last_stage l) (i % last_stage l)
-node_move l i line lt =
-    let some : 0 < last_stage l = omega (arith, line.limits.stages.0) in
-    (carrier_there i l.degree (last_stage l) some lt, omega (arith, mod_below i (last_stage l) some))
+node_move l i line lt = move_there l i line lt
 
 pub all_reached : (l : LineData) (path : List Decision) (i : ℕ) → IsLine l → i < move_count l → IsReached (system_below l path) i
 all_reached l path i line lt =
-    let some : 0 < last_stage l = omega (arith, line.limits.stages.0) in
-    let m = node_move l i line lt in
+    let m = move_there l i line lt in
     let P : ℕ → Type 0 = λ n. IsReached (system_below l path) n in
-    subst P (sym (node_is l i some)) (move_reached l path (i / last_stage l) (i % last_stage l) line m.0 (omega (arith, m.1)))
+    subst P (number_of_move l i) (move_reached l path (move_at l i).carrier (move_at l i).step line m.0 (omega (arith, m.1)))
 
 -- ---- ticks
 
-tick_near : (l : LineData) (path : List Decision) (s : ℕ → ℤ) (period i : ℕ) → IsLine l → Solves (system_below l path) period s → period ≤ 20001 → s 0 ≡ pos 0 → i < move_count l → unsigned_abs (s i) ≤ 10000000000000
+tick_near : (l : LineData) (path : List Decision) (s : ℕ → ℤ) (period i : ℕ) → IsLine l → Solves (system_below l path) period s → period ≤ 20001 → s 0 ≡ pos 0
+    → i < move_count l → unsigned_abs (s i) ≤ 10000000000000
 tick_near l path s period i line solves few start lt =
-    let some : 0 < last_stage l = omega (arith, line.limits.stages.0) in
-    let c = i / last_stage l in
-    let k = i % last_stage l in
+    let c = (move_at l i).carrier in
+    let k = (move_at l i).step in
     let keeps = keeps_all l path s period line solves in
     let first : IsMove l 0 0 = (omega (arith, line.limits.degree.0), omega (arith, line.limits.stages.0)) in
-    let m = node_move l i line lt in
-    let here : s (move_number l c k) ≡ s i = ap s (sym (node_is l i some)) in
+    let m : IsMove l c k = move_there l i line lt in
+    let here : s (move_number l c k) ≡ s i = ap s (number_of_move l i) in
     let zero_is : s (move_number l 0 0) ≡ s 0 = ap s (omega arith) in
     omega (arith, ints, spread l path s period c k 0 0 line keeps m first, spread l path s period 0 0 c k line keeps first m, here, zero_is, start, few)
 
-pub are_ticks : (l : LineData) (path : List Decision) (ticks : List ℤ) (period : ℕ) → IsLine l → Solves (system_below l path) period (tick_at ticks) → period ≤ 20001 → tick_at ticks 0 ≡ pos 0 → length ticks ≡ move_count l → AreTicks l ticks
+pub are_ticks : (l : LineData) (path : List Decision) (ticks : List ℤ) (period : ℕ) → IsLine l → Solves (system_below l path) period (tick_at ticks)
+    → period ≤ 20001 → tick_at ticks 0 ≡ pos 0 → length ticks ≡ move_count l → AreTicks l ticks
 are_ticks l path ticks period line solves few start count = (
   count,
   λ i.
       ⊎_elim (λ lt. tick_near l path (tick_at ticks) period i line solves few start lt)
-      (λ past. let e : tick_at ticks i ≡ pos 0 = get_or_past ticks i (pos 0) (omega (arith, past, count)) in omega (arith, ints, e)) (cases_lt i (move_count l)),
+      (λ past. let e : tick_at ticks i ≡ pos 0 = get_or_past ticks i (pos 0) (omega (arith, past, count)) in omega (arith, ints, e))
+      (cases_lt i (move_count l)),
 )

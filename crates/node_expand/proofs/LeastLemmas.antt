@@ -17,12 +17,12 @@ use Rattle.choice_tree.specs.declared.question.Question.TheVariants.{Assign, Tan
 use Rattle.choice_tree.specs.declared.question.Decision.{Decision}
 use Rattle.choice_tree.specs.declared.constraint.Constraint.{Constraint}
 use Rattle.choice_tree.specs.declared.constraint.Constraint.TheVariants.{Entry}
-use Rattle.period_constraints.specs.Tanks.{decision_at}
-use Rattle.period_constraints.specs.Constraints.{constraint_list, arcs_of, decided_by}
-use Rattle.period_constraints.specs.Questions.{FitsPath}
-use Rattle.period_constraints.specs.Places.{system_below}
-use Rattle.period_constraints.specs.Proves.{RefuteBelow}
-use Rattle.period_constraints.proofs.GrowLemmas.{assigned_same}
+use Rattle.path_constraints.specs.Tanks.{decision_at}
+use Rattle.path_constraints.specs.Constraints.{constraint_list, arcs_of, decided_by}
+use Rattle.path_constraints.specs.Questions.{FitsPath}
+use Rattle.path_constraints.specs.Places.{system_below}
+use Rattle.path_constraints.specs.Proves.{RefuteBelow}
+use Rattle.path_constraints.proofs.GrowLemmas.{assigned_same}
 use Rattle.node_expand.specs.Climbs.{IsAssign, EndsInHoists, IsLeastPeriodOf, AreClimbs, IsClimbOf}
 use Rattle.node_expand.specs.declared.least_period.LeastPeriod.{LeastPeriod}
 use Rattle.node_expand.specs.declared.climbs.Climb.{Climb}
@@ -32,14 +32,16 @@ use Rattle.node_expand.proofs.PathLemmas.{names_more, system_same}
 
 -- ---- what a least period shows
 
-pub least_refutes : (l : LineData) (path : List Decision) (least : LeastPeriod) → IsLeastPeriodOf l path least → RefuteBelow l path (least.low ∷ []) least.period
+pub least_refutes : (l : LineData) (path : List Decision) (least : LeastPeriod) → IsLeastPeriodOf l path least
+    → RefuteBelow l path (least.low ∷ []) least.period
 least_refutes l path least h =
     let P : List Constraint → Type 0 = λ ts. RefuteBelow l path (ts ∷ []) least.period in
     subst P (sym h.names) (refute_one l path h.walk least.period h.walk_closed h.gives)
 
 -- ---- what a climb is
 
-pub climb_is : (l : LineData) (path : List Decision) (cap : ℕ) (s : SystemData) (x y : Climbed) → s ≡ system_below l path → x ≡ climbed s cap → x ≡ y → climbed (system_below l path) cap ≡ y
+pub climb_is : (l : LineData) (path : List Decision) (cap : ℕ) (s : SystemData) (x y : Climbed) → s ≡ system_below l path → x ≡ climbed s cap → x ≡ y
+    → climbed (system_below l path) cap ≡ y
 climb_is l path cap s x y e climb is = ap (λ (b : SystemData). climbed b cap) (sym e) ∙ sym climb ∙ is
 
 -- ---- decisions on hoists
@@ -62,14 +64,16 @@ hoists_from path n later here i le lt =
 abbrev SameBelow : LineData → List Decision → List Decision → Type 0
 SameBelow l p p' = (arcs_of l p ≡ arcs_of l p') × (constraint_list l p ≡ constraint_list l p')
 
-hoist_same : (l : LineData) (path : List Decision) (n : ℕ) → FitsPath l path → 2 ≤ length l.stages → n < length path → IsAssign (decision_at path n).question → SameBelow l (take n path) (take (n + 1) path)
+hoist_same : (l : LineData) (path : List Decision) (n : ℕ) → FitsPath l path → 2 ≤ length l.stages → n < length path → IsAssign (decision_at path n).question
+    → SameBelow l (take n path) (take (n + 1) path)
 hoist_same l path n fits two lt here =
     let (m, is) = an_assign (decision_at path n).question here in (
       sym (assigned_same l path n m fits two lt is),
       sym (names_more l path n lt ∙ ap (λ (q : Question). constraint_list l (take n path) ++ decided_by q n) is ∙ append-nil (constraint_list l (take n path))),
     )
 
-hoists_same : (l : LineData) (path : List Decision) (k n : ℕ) → FitsPath l path → 2 ≤ length l.stages → n + k ≡ length path → EndsInHoists path n → SameBelow l (take n path) path
+hoists_same : (l : LineData) (path : List Decision) (k n : ℕ) → FitsPath l path → 2 ≤ length l.stages → n + k ≡ length path → EndsInHoists path n
+    → SameBelow l (take n path) path
 hoists_same l path zero n fits two count ends =
     let e = take_all n path (omega (arith, count)) in
     (ap (λ (ds : List Decision). arcs_of l ds) e, ap (λ (ds : List Decision). constraint_list l ds) e)
@@ -97,12 +101,14 @@ same_least l p p' least same h =
       ticks = h.ticks;
     }
 
-pub least_below : (l : LineData) (path : List Decision) (n : ℕ) (least : LeastPeriod) → FitsPath l path → IsLine l → n ≤ length path → EndsInHoists path n → IsLeastPeriodOf l (take n path) least → IsLeastPeriodOf l path least
+pub least_below : (l : LineData) (path : List Decision) (n : ℕ) (least : LeastPeriod) → FitsPath l path → IsLine l → n ≤ length path → EndsInHoists path n
+    → IsLeastPeriodOf l (take n path) least → IsLeastPeriodOf l path least
 least_below l path n least fits line le ends h =
     same_least l (take n path) path least (hoists_same l path (length path - n) n fits line.limits.stages.0 (omega (arith, le)) ends) h
 
 -- a climb that is found for a path is that of the path without its decisions on hoists at the end
-pub least_found : (l : LineData) (path : List Decision) (cap k n : ℕ) (old new : Climbs) (climb : Climb) → FitsPath l path → IsLine l → AreClimbs l old → new.kept ≡ old.kept → n ≤ length path → EndsInHoists path n
+pub least_found : (l : LineData) (path : List Decision) (cap k n : ℕ) (old new : Climbs) (climb : Climb) → FitsPath l path → IsLine l → AreClimbs l old
+    → new.kept ≡ old.kept → n ≤ length path → EndsInHoists path n
     → IsClimbOf (take n path) cap new k → climb ≡ get_or new.kept.items k climb → IsLeastPeriodOf l path climb.least × (climb.least.period < cap)
 least_found l path cap k n old new climb fits line climbs same le ends (lt, of_path) is =
     let P : Vec Climb Global → Type 0 = λ kept. All (λ (x : Climb). IsLeastPeriodOf l x.path.items x.least) kept.items in

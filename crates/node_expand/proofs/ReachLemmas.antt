@@ -5,9 +5,9 @@ use Rattle.hoist_base.specs.LineData.{LineData, stage, position_of, IsSingle, Is
 use Rattle.hoist_base.specs.declared.ids.MoveId.{MoveId}
 use Rattle.choice_tree.specs.declared.question.Decision.{Decision}
 use Rattle.line_model.specs.Motion.{Reaches}
-use Rattle.period_constraints.specs.Tanks.{tanks_by, tanks_below, MayServe, IsStuck}
-use Rattle.period_constraints.specs.Questions.{FitsPath}
-use Rattle.period_constraints.proofs.TankLemmas.{no_choice}
+use Rattle.path_constraints.specs.Tanks.{tanks_by, tanks_below, MayServe, IsStuck}
+use Rattle.path_constraints.specs.Questions.{FitsPath}
+use Rattle.path_constraints.proofs.TankLemmas.{no_choice}
 use Rattle.node_expand.specs.Expansion.{NoneStuck, IsFirstStuck}
 
 tanks_same : (l : LineData) (path : List Decision) (c k : ℕ) → IsSingle l → FitsPath l path → IsStageOf l k → tanks_below l path c k ≡ tanks_below l [] c k
@@ -32,7 +32,8 @@ stuck_back : (l : LineData) (path : List Decision) (c k : ℕ) → IsSingle l �
 stuck_back l path c k single fits step stuck h lt reach =
     stuck h lt (serves_back l path h c k single fits (omega (arith, step)) reach.0, serves_back l path h c (k + 1) single fits step reach.1)
 
-pub stuck_same : (l : LineData) (path : List Decision) (o : Option MoveId) → IsSingle l → FitsPath l path → MatchOption o (NoneStuck l []) (λ m. IsFirstStuck l [] m) → MatchOption o (NoneStuck l path) (λ m. IsFirstStuck l path m)
+pub stuck_same : (l : LineData) (path : List Decision) (o : Option MoveId) → IsSingle l → FitsPath l path
+    → MatchOption o (NoneStuck l []) (λ m. IsFirstStuck l [] m) → MatchOption o (NoneStuck l path) (λ m. IsFirstStuck l path m)
 stuck_same l path None single fits none = λ c k move stuck. none c k move (stuck_back l path c k single fits move.1 stuck)
 stuck_same l path (Some m) single fits first = record {
   move = first.move;

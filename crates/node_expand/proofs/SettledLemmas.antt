@@ -14,15 +14,15 @@ use Rattle.choice_tree.specs.declared.question.Question.TheVariants.{Assign, Tan
 use Rattle.choice_tree.specs.declared.question.Decision.{Decision}
 use Rattle.choice_tree.specs.Nodes.{numbers_from}
 use Rattle.choice_tree.proofs.NodeLemmas.{length-numbers_from}
-use Rattle.period_constraints.specs.Tanks.{decision_at, choice_of, tanks_by, tanks_below, one_of, tank_below, motion_below}
-use Rattle.period_constraints.specs.Hoists.{assigned_of, reaches_motion, hoists_reaching, hoist_by, hoists_by, hoists_below}
-use Rattle.period_constraints.specs.Questions.{Stands, Fits, FitsPath, IsOpenMove, IsOpenVisit, child_count}
+use Rattle.path_constraints.specs.Tanks.{decision_at, choice_of, tanks_by, tanks_below, one_of, tank_below, motion_below}
+use Rattle.path_constraints.specs.Hoists.{assigned_of, reaches_motion, hoists_reaching, hoist_by, hoists_by, hoists_below}
+use Rattle.path_constraints.specs.Questions.{Stands, Fits, FitsPath, IsOpenMove, IsOpenVisit, child_count}
 use Rattle.period_constraints.specs.Order.{IsFirstQuestion}
-use Rattle.period_constraints.proofs.Choices.{assigned}
-use Rattle.period_constraints.proofs.Settled.{tanks_are, motion_is, motion_stays, settled_motion, ride_is}
-use Rattle.period_constraints.proofs.TankLemmas.{choice_there}
-use Rattle.period_constraints.proofs.NameLemmas.{In, in_numbers, in_contains}
-use Rattle.period_constraints.proofs.RideLemmas.{reaches_yes}
+use Rattle.path_constraints.proofs.Choices.{assigned}
+use Rattle.path_constraints.proofs.Settled.{tanks_are, motion_is, motion_stays, settled_motion, ride_is}
+use Rattle.path_constraints.proofs.TankLemmas.{choice_there}
+use Rattle.path_constraints.proofs.NameLemmas.{In, in_numbers, in_contains}
+use Rattle.path_constraints.proofs.RideLemmas.{reaches_yes}
 use Rattle.node_expand.specs.Expansion.{NoneStuck}
 use Rattle.node_expand.specs.Settled.{HasTanks, HasHoists}
 
@@ -52,7 +52,8 @@ tanks_settled l path s period line none c k visit =
     (cases_lt (length (stage l k).tanks) 2))
 
 -- the first tank as the code reads it
-pub tank_read : (l : LineData) (path : List Decision) (c k : ℕ) (ts : List ℕ) → ts ≡ tanks_below l path c k → IsSome (tank_below l path c k) → tank_below l path c k ≡ Some (get_or ts 0 0)
+pub tank_read : (l : LineData) (path : List Decision) (c k : ℕ) (ts : List ℕ) → ts ≡ tanks_below l path c k → IsSome (tank_below l path c k)
+    → tank_below l path c k ≡ Some (get_or ts 0 0)
 tank_read l path c k ts is some =
     let t = some_one (tank_below l path c k) some in
     let one = tanks_are l path c k t.0 t.1 in
@@ -89,7 +90,8 @@ some_by (h ∷ g ∷ hs) None one there = absurd (omega (arith, one refl))
 some_by (h ∷ g ∷ hs) (Some n) one there = got (h ∷ g ∷ hs) n (there n refl)
 
 -- the hoist of an Assign is one of those that reach the move
-assigned_there : (l : LineData) (path : List Decision) (c k n : ℕ) (m : Motion) → FitsPath l path → assigned_of path c k ≡ Some n → motion_below l path c k ≡ Some m → n < length (hoists_reaching l m)
+assigned_there : (l : LineData) (path : List Decision) (c k n : ℕ) (m : Motion) → FitsPath l path → assigned_of path c k ≡ Some n
+    → motion_below l path c k ≡ Some m → n < length (hoists_reaching l m)
 assigned_there l path c k n m fits e is =
     let r = assigned path c k n e in
     let above = take r.place path in
@@ -100,11 +102,13 @@ assigned_there l path c k n m fits e is =
     let here : d.child < length (hoists_below l above r.move.carrier r.move.step) = subst Q r.question (fits r.place r.there).child in
     let found = some_one (motion_below l above r.move.carrier r.move.step) open_move.motion in
     let stays = motion_stays l path r.place r.move.carrier r.move.step found.0 fits found.1 in
-    let same : Some found.0 ≡ Some m = sym stays ∙ ap (λ (a : ℕ). motion_below l path a r.move.step) r.carrier ∙ ap (λ (j : ℕ). motion_below l path c j) r.step ∙ is in
+    let same : Some found.0 ≡ Some m =
+    sym stays ∙ ap (λ (a : ℕ). motion_below l path a r.move.step) r.carrier ∙ ap (λ (j : ℕ). motion_below l path c j) r.step ∙ is in
     let list : hoists_below l above r.move.carrier r.move.step ≡ hoists_reaching l m = ap (λ (o : Option Motion). hoists_by l o) (found.1 ∙ same) in
     omega (arith, here, ap (λ (hs : List ℕ). length hs) list, r.child)
 
-pub hoists_settled : (l : LineData) (path : List Decision) (s : ℕ → ℤ) (period : ℕ) → IsLine l → FitsPath l path → IsFirstQuestion l path s period None → HasHoists l path
+pub hoists_settled : (l : LineData) (path : List Decision) (s : ℕ → ℤ) (period : ℕ) → IsLine l → FitsPath l path → IsFirstQuestion l path s period None
+    → HasHoists l path
 hoists_settled l path s period line fits none c k move =
     let tanks = tanks_settled l path s period line none in
     let from = some_one (tank_below l path c k) (tanks c k (move.0, omega (arith, move.1))) in
@@ -117,7 +121,8 @@ hoists_settled l path s period line fits none c k move =
     (λ free. ⊎_elim (λ e. e)
     (λ several.
     let ne : length (hoists_below l path c k) ≢ 1 = λ e. several (ap (λ (hs : List ℕ). length hs) (sym list) ∙ e) in
-    let open_yet : IsOpenMove l path (record { carrier = c; step = k }) = record { move = move; motion = some_is (motion_below l path c k) m is; open_yet = free; several = ne } in
+    let open_yet : IsOpenMove l path (record { carrier = c; step = k }) =
+    record { move = move; motion = some_is (motion_below l path c k) m is; open_yet = free; several = ne } in
     absurd (none (Assign (record { carrier = c; step = k })) (record { stands = open_yet; fails = tt })))
     (cases_eq (length (hoists_reaching l m)) 1))
     (λ n e. assigned_there l path c k n m fits e is)) in
@@ -149,7 +154,8 @@ few_filter p (x ∷ xs) = at_head (p x) (few_filter p xs)
     at_head false le = omega (arith, le)
 
 -- some hoist reaches a move with one motion that some hoist may reach
-reached_by_some : (l : LineData) (path : List Decision) (c k : ℕ) (m : Motion) → NoneStuck l path → IsMove l c k → motion_below l path c k ≡ Some m → length (hoists_reaching l m) ≡ 0 → ⊥
+reached_by_some : (l : LineData) (path : List Decision) (c k : ℕ) (m : Motion) → NoneStuck l path → IsMove l c k → motion_below l path c k ≡ Some m
+    → length (hoists_reaching l m) ≡ 0 → ⊥
 reached_by_some l path c k m free move is zero_is =
     let r = settled_motion l path c k m is in
     let from = tanks_are l path c k r.from r.first in
@@ -170,7 +176,8 @@ reached_by_some l path c k m free move is zero_is =
         let P : List ℕ → Type 0 = λ ys. In ys i in
         ⊎_elim (λ same. same) (λ none. absurd none) (subst P e (in_contains xs i there))
 
-pub some_children : (l : LineData) (path : List Decision) (q : Question) → IsLine l → NoneStuck l path → Fits l path q → (2 ≤ child_count l path q) × (child_count l path q ≤ 6)
+pub some_children : (l : LineData) (path : List Decision) (q : Question) → IsLine l → NoneStuck l path → Fits l path q
+    → (2 ≤ child_count l path q) × (child_count l path q ≤ 6)
 some_children l path (Assign m) line free f =
     let found = some_one (motion_below l path m.carrier m.step) f.stands.motion in
     let list : hoists_below l path m.carrier m.step ≡ hoists_reaching l found.0 = ap (λ (o : Option Motion). hoists_by l o) found.1 in
@@ -187,7 +194,8 @@ some_children l path (Choose v) line free f = (f.stands.several, omega (arith, (
 -- ---- lists by number
 
 -- what is noted for each number below a count is noted for each carrier and stage or step
-pub by_number : (P : ℕ → ℕ → ℕ → Type 0) (d m n : ℕ) (xs : List ℕ) → n ≡ d * m → ((j : ℕ) → j < n → P (j / m) (j % m) (get_or xs j 0)) → (c k : ℕ) → c < d → k < m → P c k (get_or xs (c * m + k) 0)
+pub by_number : (P : ℕ → ℕ → ℕ → Type 0) (d m n : ℕ) (xs : List ℕ) → n ≡ d * m → ((j : ℕ) → j < n → P (j / m) (j % m) (get_or xs j 0)) → (c k : ℕ) → c < d
+    → k < m → P c k (get_or xs (c * m + k) 0)
 by_number P d m n xs count all c k lt lt' =
     let step = mul-le (c + 1) m d m (omega (arith, lt)) (omega arith) in
     let h = all (c * m + k) (omega (arith, count, step, lt')) in
@@ -196,16 +204,19 @@ by_number P d m n xs count all c k lt lt' =
     subst R (mod-mul-add c m k lt') (subst Q (div-mul-add c m k lt') h)
 
 -- one number more is noted
-pub noted_more : (F : ℕ → Option ℕ) (xs ys : List ℕ) (n t : ℕ) → length xs ≡ n → ((j : ℕ) → j < n → F j ≡ Some (get_or xs j 0)) → F n ≡ Some t → ys ≡ xs ++ t ∷ []
+pub noted_more : (F : ℕ → Option ℕ) (xs ys : List ℕ) (n t : ℕ) → length xs ≡ n → ((j : ℕ) → j < n → F j ≡ Some (get_or xs j 0)) → F n ≡ Some t
+    → ys ≡ xs ++ t ∷ []
     → (length ys ≡ n + 1) × ((j : ℕ) → j < n + 1 → F j ≡ Some (get_or ys j 0))
 noted_more F xs ys n t count all is pushed = (
   omega (arith, ap (λ (zs : List ℕ). length zs) pushed, length-append xs (t ∷ []), count),
   λ j lt.
       ⊎_elim
-      (λ below. all j below ∙ ap (λ (m : ℕ). Some m) (sym (ap (λ (zs : List ℕ). get_or zs j 0) pushed ∙ get_or_append_left xs (t ∷ []) 0 j (omega (arith, below, count)))))
+      (λ below. all j below ∙ ap (λ (m : ℕ). Some m)
+      (sym (ap (λ (zs : List ℕ). get_or zs j 0) pushed ∙ get_or_append_left xs (t ∷ []) 0 j (omega (arith, below, count)))))
       (λ past.
       let e : j ≡ n = omega (arith, lt, past) in
       let first : j - n ≡ 0 = omega (arith, e) in
-      ap F e ∙ is ∙ ap (λ (m : ℕ). Some m) (sym (ap (λ (zs : List ℕ). get_or zs j 0) pushed ∙ get_or-append_right xs (t ∷ []) n j 0 count past ∙ ap (λ (i : ℕ). get_or (t ∷ []) i 0) first)))
+      ap F e ∙ is ∙ ap (λ (m : ℕ). Some m)
+      (sym (ap (λ (zs : List ℕ). get_or zs j 0) pushed ∙ get_or-append_right xs (t ∷ []) n j 0 count past ∙ ap (λ (i : ℕ). get_or (t ∷ []) i 0) first)))
       (cases_lt j n),
 )

@@ -13,10 +13,10 @@ use Rattle.cycle_walk.specs.Climb.{Gives}
 use Rattle.choice_tree.specs.declared.question.Decision.{Decision}
 use Rattle.choice_tree.specs.declared.constraint.Constraint.{Constraint}
 use Rattle.choice_tree.specs.declared.constraint.Constraint.TheVariants.{Entry}
-use Rattle.period_constraints.specs.Constraints.{IsConstraint, constraint_list, arc_of, arcs_of}
-use Rattle.period_constraints.specs.Places.{system_below}
-use Rattle.period_constraints.specs.Proves.{Walks, IsClosedWalk, sum_w, sum_q, RefutesPeriod, RefuteBelow}
-use Rattle.period_constraints.proofs.NameLemmas.{In, in_at, from_list, in_contains, contains_in}
+use Rattle.path_constraints.specs.Constraints.{IsConstraint, constraint_list, arc_of, arcs_of}
+use Rattle.path_constraints.specs.Places.{system_below}
+use Rattle.path_constraints.specs.Proves.{Walks, IsClosedWalk, sum_w, sum_q, RefutesPeriod, RefuteBelow}
+use Rattle.path_constraints.proofs.NameLemmas.{In, in_at, from_list, in_contains, contains_in}
 use Rattle.node_expand.specs.Expansion.{named}
 use Rattle.node_expand.specs.Shown.{IsShortWalk}
 
@@ -38,7 +38,8 @@ name_there l path k lt = from_list l path (name l path k) (in_at (constraint_lis
 
 -- ---- walks
 
-pub walks_named : (l : LineData) (path : List Decision) (i : ℕ) (ks : List ℕ) (j : ℕ) → closed.Walks (system_below l path) i ks j → Walks l path i (map (name l path) ks) j
+pub walks_named : (l : LineData) (path : List Decision) (i : ℕ) (ks : List ℕ) (j : ℕ) → closed.Walks (system_below l path) i ks j
+    → Walks l path i (map (name l path) ks) j
 walks_named l path i [] j h = h
 walks_named l path i (k ∷ ks) j h =
     let e = arc_named l path k h.0 in
@@ -46,29 +47,34 @@ walks_named l path i (k ∷ ks) j h =
     let on : closed.Walks (system_below l path) (arc_of l path (name l path k)).to ks j = subst P (ap (λ (a : Arc). a.to) e) h.2 in
     (name_there l path k h.0, ap (λ (a : Arc). a.from) (sym e) ∙ h.1, walks_named l path (arc_of l path (name l path k)).to ks j on)
 
-closed_list : (l : LineData) (path : List Decision) (n : ℕ) (ks : List ℕ) → 1 ≤ length ks → closed.Walks (system_below l path) n ks n → IsClosedWalk l path (map (name l path) ks)
+closed_list : (l : LineData) (path : List Decision) (n : ℕ) (ks : List ℕ) → 1 ≤ length ks → closed.Walks (system_below l path) n ks n
+    → IsClosedWalk l path (map (name l path) ks)
 closed_list l path n [] some h = absurd (omega (arith, some))
 closed_list l path n (k ∷ ks) some h =
     let w = walks_named l path n (k ∷ ks) n h in
     let P : ℕ → Type 0 = λ m. Walks l path m (map (name l path) (k ∷ ks)) m in
     subst P (sym w.1) w
 
-pub closed_named : (l : LineData) (path : List Decision) (walk : WalkData) → closed.IsClosedWalk (system_below l path) walk → IsClosedWalk l path (named l path walk)
+pub closed_named : (l : LineData) (path : List Decision) (walk : WalkData) → closed.IsClosedWalk (system_below l path) walk
+    → IsClosedWalk l path (named l path walk)
 closed_named l path walk h = closed_list l path h.node walk.arcs h.some h.leads
 
-w_named : (l : LineData) (path : List Decision) (i : ℕ) (ks : List ℕ) (j : ℕ) → closed.Walks (system_below l path) i ks j → system.sum_w (system_below l path) ks ≡ sum_w l path (map (name l path) ks)
+w_named : (l : LineData) (path : List Decision) (i : ℕ) (ks : List ℕ) (j : ℕ) → closed.Walks (system_below l path) i ks j
+    → system.sum_w (system_below l path) ks ≡ sum_w l path (map (name l path) ks)
 w_named l path i [] j h = refl
 w_named l path i (k ∷ ks) j h =
     let e = ap (λ (a : Arc). a.w) (arc_named l path k h.0) in
     omega (arith, ints, e, w_named l path (arc (system_below l path) k).to ks j h.2)
 
-q_named : (l : LineData) (path : List Decision) (i : ℕ) (ks : List ℕ) (j : ℕ) → closed.Walks (system_below l path) i ks j → system.sum_q (system_below l path) ks ≡ sum_q l path (map (name l path) ks)
+q_named : (l : LineData) (path : List Decision) (i : ℕ) (ks : List ℕ) (j : ℕ) → closed.Walks (system_below l path) i ks j
+    → system.sum_q (system_below l path) ks ≡ sum_q l path (map (name l path) ks)
 q_named l path i [] j h = refl
 q_named l path i (k ∷ ks) j h =
     let e = ap (λ (a : Arc). a.q) (arc_named l path k h.0) in
     omega (arith, ints, e, q_named l path (arc (system_below l path) k).to ks j h.2)
 
-pub refutes_named : (l : LineData) (path : List Decision) (walk : WalkData) (period : ℕ) → closed.IsClosedWalk (system_below l path) walk → Refutes walk.w walk.q period → RefutesPeriod l path period (named l path walk)
+pub refutes_named : (l : LineData) (path : List Decision) (walk : WalkData) (period : ℕ) → closed.IsClosedWalk (system_below l path) walk
+    → Refutes walk.w walk.q period → RefutesPeriod l path period (named l path walk)
 refutes_named l path walk period h gives =
     let w = h.w ∙ w_named l path h.node walk.arcs h.node h.leads in
     let q = h.q ∙ q_named l path h.node walk.arcs h.node h.leads in
@@ -92,12 +98,14 @@ short_named l path walk h =
 abbrev pub names_of : LineData → List Decision → Option WalkData → Option (List Constraint)
 names_of l path walk = option_map (named l path) walk
 
-gives_named : (l : LineData) (path : List Decision) (walk : Option WalkData) (period : ℕ) → IfSome walk (closed.IsClosedWalk (system_below l path)) → Gives walk period
+gives_named : (l : LineData) (path : List Decision) (walk : Option WalkData) (period : ℕ) → IfSome walk (closed.IsClosedWalk (system_below l path))
+    → Gives walk period
     → (names : List Constraint) × In (option_to_list (names_of l path walk)) names × RefutesPeriod l path period names
 gives_named l path None period h gives = absurd gives
 gives_named l path (Some walk) period h gives = (named l path walk, inl refl, refutes_named l path walk period h gives)
 
-closed_names : (l : LineData) (path : List Decision) (walk : Option WalkData) (names : List Constraint) → IfSome walk (closed.IsClosedWalk (system_below l path)) → In (option_to_list (names_of l path walk)) names → IsClosedWalk l path names
+closed_names : (l : LineData) (path : List Decision) (walk : Option WalkData) (names : List Constraint)
+    → IfSome walk (closed.IsClosedWalk (system_below l path)) → In (option_to_list (names_of l path walk)) names → IsClosedWalk l path names
 closed_names l path None names h there = absurd there
 closed_names l path (Some walk) names h there =
     ⊎_elim (λ e. let P : List Constraint → Type 0 = λ ts. IsClosedWalk l path ts in subst P e (closed_named l path walk h)) (λ none. absurd none) there
@@ -115,14 +123,17 @@ in_one [] ys x h = inr h
 in_one (y ∷ xs) ys x h = ⊎_elim (λ e. inl (inl e)) (λ more. ⊎_elim (λ a. inl (inr a)) (λ b. inr b) (in_one xs ys x more)) h
 
 -- two walks that refute every period below a bound
-pub refute_two : (l : LineData) (path : List Decision) (low high : Option WalkData) (bound : ℕ) → IfSome low (closed.IsClosedWalk (system_below l path)) → IfSome high (closed.IsClosedWalk (system_below l path))
+pub refute_two : (l : LineData) (path : List Decision) (low high : Option WalkData) (bound : ℕ) → IfSome low (closed.IsClosedWalk (system_below l path))
+    → IfSome high (closed.IsClosedWalk (system_below l path))
     → ((t : ℕ) → 1 ≤ t → t < bound → Gives low t ⊎ Gives high t)
     → RefuteBelow l path (option_to_list (names_of l path low) ++ option_to_list (names_of l path high)) bound
 refute_two l path low high bound a b gives =
     let xs = option_to_list (names_of l path low) in
     let ys = option_to_list (names_of l path high) in
     record {
-      closed = λ walk there. ⊎_elim (λ h. closed_names l path low walk a h) (λ h. closed_names l path high walk b h) (in_one xs ys walk (in_contains (xs ++ ys) walk there));
+      closed =
+          λ walk there. ⊎_elim (λ h. closed_names l path low walk a h) (λ h. closed_names l path high walk b h)
+          (in_one xs ys walk (in_contains (xs ++ ys) walk there));
       refuted = λ t some below.
           ⊎_elim
           (λ g. let r = gives_named l path low t a g in (r.0, contains_in (xs ++ ys) r.0 (in_first xs ys r.0 r.1), r.2))
@@ -130,7 +141,8 @@ refute_two l path low high bound a b gives =
     }
 
 -- one walk that does
-pub refute_one : (l : LineData) (path : List Decision) (walk : WalkData) (bound : ℕ) → closed.IsClosedWalk (system_below l path) walk → ((t : ℕ) → 1 ≤ t → t < bound → Refutes walk.w walk.q t)
+pub refute_one : (l : LineData) (path : List Decision) (walk : WalkData) (bound : ℕ) → closed.IsClosedWalk (system_below l path) walk
+    → ((t : ℕ) → 1 ≤ t → t < bound → Refutes walk.w walk.q t)
     → RefuteBelow l path (named l path walk ∷ []) bound
 refute_one l path walk bound h gives =
     let xs = named l path walk ∷ [] in

@@ -8,10 +8,10 @@ use Rattle.cycle_walk.specs.declared.climbing.Climbed.TheVariants.{Floor}
 use Rattle.choice_tree.specs.declared.question.Question.{Question}
 use Rattle.choice_tree.specs.declared.question.Question.TheVariants.{Assign, TankOrder, HoistOrder, Choose}
 use Rattle.choice_tree.specs.declared.question.Decision.{Decision}
-use Rattle.period_constraints.specs.Tanks.{decision_at}
-use Rattle.period_constraints.specs.Places.{system_below}
-use Rattle.period_constraints.specs.Proves.{RefuteBelow}
-use Rattle.period_constraints.specs.Ticks.{AreTicks}
+use Rattle.path_constraints.specs.Tanks.{decision_at}
+use Rattle.path_constraints.specs.Places.{system_below}
+use Rattle.path_constraints.specs.Proves.{RefuteBelow}
+use Rattle.path_constraints.specs.Ticks.{AreTicks}
 use Rattle.node_expand.specs.Expansion.{named, IsShut}
 use Rattle.node_expand.specs.Shown.{IsShortWalk}
 use Rattle.node_expand.specs.declared.least_period.LeastPeriod.{LeastPeriod}

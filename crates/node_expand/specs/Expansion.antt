@@ -10,12 +10,12 @@ use Rattle.cycle_walk.specs.declared.climbing.Climbed.TheVariants.{Floor, Shut}
 use Rattle.choice_tree.specs.declared.question.Decision.{Decision}
 use Rattle.choice_tree.specs.declared.constraint.Constraint.{Constraint}
 use Rattle.choice_tree.specs.declared.constraint.Constraint.TheVariants.{Entry}
-use Rattle.period_constraints.specs.Tanks.{IsStuck}
-use Rattle.period_constraints.specs.Constraints.{constraint_list}
-use Rattle.period_constraints.specs.Places.{system_below}
-use Rattle.period_constraints.specs.Questions.{IsBefore, child_count}
+use Rattle.path_constraints.specs.Tanks.{IsStuck}
+use Rattle.path_constraints.specs.Constraints.{constraint_list}
+use Rattle.path_constraints.specs.Places.{system_below}
+use Rattle.path_constraints.specs.Questions.{IsBefore, child_count}
 use Rattle.period_constraints.specs.Order.{IsFirstQuestion}
-use Rattle.period_constraints.specs.Ticks.{tick_at}
+use Rattle.path_constraints.specs.Ticks.{tick_at}
 use Rattle.node_expand.specs.declared.expanded.Expanded.{Expanded}
 use Rattle.node_expand.specs.declared.expanded.Expanded.TheVariants.{Stuck, Closed, Solved, Split}
 use Rattle.node_expand.specs.Plannable.{Settles}

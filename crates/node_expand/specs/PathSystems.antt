@@ -1,10 +1,11 @@
 -- The system of a path in memory.
 use Rattle.std.specs.Prelude.{◌≡◌, ◌≤◌, List, [], length, take}
 use Rattle.hoist_base.specs.LineData.{LineData}
+use Rattle.hoist_base.specs.Valid.{IsLine}
 use Rattle.choice_tree.specs.declared.question.Decision.{Decision}
-use Rattle.period_constraints.specs.Constraints.{constraint_list}
-use Rattle.period_constraints.specs.Questions.{FitsPath}
-use Rattle.period_constraints.specs.Places.{system_below}
+use Rattle.path_constraints.specs.Constraints.{constraint_list}
+use Rattle.path_constraints.specs.Questions.{FitsPath}
+use Rattle.path_constraints.specs.Places.{system_below}
 use Rattle.node_expand.specs.declared.path_system.PathSystem.{PathSystem}
 
 -- it has the constraints of this path, with their names, and those of the line before any decision
@@ -16,6 +17,7 @@ pub record IsAt (l : LineData) (ds : List Decision) (at : PathSystem) : Type 0 w
 
 -- it has those of its own path, which fits the line
 pub record IsPathSystem (l : LineData) (at : PathSystem) : Type 0 where
+  pub valid : IsLine l
   pub fits : FitsPath l at.path.items
   pub short : length at.path.items ≤ 20000
   pub here : IsAt l at.path.items at

@@ -5,12 +5,12 @@ use Rattle.hoist_base.specs.Routes.{IsRoute, route_tank}
 use Rattle.choice_tree.specs.declared.question.Question.{Question}
 use Rattle.choice_tree.specs.declared.question.Decision.{Decision}
 use Rattle.choice_tree.specs.declared.constraint.Constraint.{Constraint}
-use Rattle.period_constraints.specs.Tanks.{tank_below}
-use Rattle.period_constraints.specs.Hoists.{hoist_below}
-use Rattle.period_constraints.specs.Constraints.{IsConstraint, IsOrder, arc_of, Keeps}
-use Rattle.period_constraints.specs.Places.{IsUndecided}
-use Rattle.period_constraints.specs.Questions.{FitsPath, Stands, Fails}
-use Rattle.period_constraints.specs.Ticks.{tick_at}
+use Rattle.path_constraints.specs.Tanks.{tank_below}
+use Rattle.path_constraints.specs.Hoists.{hoist_below}
+use Rattle.path_constraints.specs.Constraints.{IsConstraint, IsOrder, arc_of, Keeps}
+use Rattle.path_constraints.specs.Places.{IsUndecided}
+use Rattle.path_constraints.specs.Questions.{FitsPath, Stands, Fails}
+use Rattle.path_constraints.specs.Ticks.{tick_at}
 use Rattle.node_expand.specs.declared.solved.Solved.{Solved}
 
 -- the path leaves each visit its tank of the route, and each move its hoist

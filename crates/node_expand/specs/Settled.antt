@@ -2,8 +2,8 @@
 use Rattle.std.specs.Prelude.{ℕ, List, IsSome}
 use Rattle.hoist_base.specs.LineData.{LineData, IsMove, IsVisit}
 use Rattle.choice_tree.specs.declared.question.Decision.{Decision}
-use Rattle.period_constraints.specs.Tanks.{tank_below}
-use Rattle.period_constraints.specs.Hoists.{hoist_below}
+use Rattle.path_constraints.specs.Tanks.{tank_below}
+use Rattle.path_constraints.specs.Hoists.{hoist_below}
 
 -- each visit has one tank below the path
 abbrev pub HasTanks : LineData → List Decision → Type 0

@@ -3,9 +3,9 @@ use Rattle.std.specs.Prelude.{◌≡◌, ℕ, ◌≤◌, ◌<◌, List, [], ◌�
 use Rattle.hoist_base.specs.LineData.{LineData, IsMove}
 use Rattle.choice_tree.specs.declared.question.Decision.{Decision}
 use Rattle.choice_tree.specs.declared.constraint.Constraint.{Constraint}
-use Rattle.period_constraints.specs.Tanks.{IsStuck}
-use Rattle.period_constraints.specs.Questions.{Fits, child_count}
-use Rattle.period_constraints.specs.Proves.{RefuteBelow}
+use Rattle.path_constraints.specs.Tanks.{IsStuck}
+use Rattle.path_constraints.specs.Questions.{Fits, child_count}
+use Rattle.path_constraints.specs.Proves.{RefuteBelow}
 use Rattle.node_expand.specs.declared.expanded.Expanded.{Expanded}
 use Rattle.node_expand.specs.declared.expanded.Expanded.TheVariants.{Stuck, Closed, Solved, Split}
 use Rattle.node_expand.specs.Plannable.{IsPlannable}

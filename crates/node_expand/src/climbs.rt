@@ -74,8 +74,8 @@ impl Climbs {
         }
     }
 
-    // Where the climb of a path stands, if it is remembered and its period is below the cap. It is looked for from where
-    // the last one was found.
+    // Where the climb of a path stands, if it is remembered and its period is below the cap. It is looked for from
+    // where the last one was found.
     fn stands_at(&self, path: &[Decision], cap: u32) -> Option<usize>
         requires few { (length self.now.kept.items ≤ 512) × (self.now.found ≤ 512) }
         ensures { IfSome result (λ k. IsClimbOf path.now cap self.now k) }

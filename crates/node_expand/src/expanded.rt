@@ -8,8 +8,8 @@ use hoist_base::MoveId;
 /// - `Stuck`: no hoist may reach move `m`, the least such move.
 /// - `Closed`: no period below the cap is feasible; `low` and `high` together refute them all.
 /// - `Solved`: the least feasible period leaves no question; `low` refutes every smaller one.
-/// - `Split`: the least feasible period, `period`, leaves this first question, which has so many children; `low` refutes
-///   every smaller period.
+/// - `Split`: the least feasible period, `period`, leaves this first question, which has so many children; `low`
+///   refutes every smaller period.
 #[derive(Debug, Drop)]
 pub enum Expanded {
     Stuck {

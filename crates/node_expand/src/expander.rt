@@ -2,10 +2,12 @@
 ghost use Rattle.std.specs.Prelude.{◌≡◌, ℕ, ◌<◌, ◌≤◌, [], length, take, IfOk, IfSome};
 ghost use Rattle.hoist_base.specs.LineData.{LineData, move_count};
 ghost use Rattle.hoist_base.specs.Routes.{IsRoute};
-ghost use Rattle.period_constraints.specs.Questions.{FitsPath};
+ghost use Rattle.hoist_base.specs.Valid.{IsLine};
+ghost use Rattle.longest_path.specs.Bounds.{IsCap};
+ghost use Rattle.path_constraints.specs.Questions.{FitsPath};
 ghost use Rattle.period_constraints.specs.Order.{IsFirstQuestion};
-ghost use Rattle.period_constraints.specs.Places.{system_below};
-ghost use Rattle.period_constraints.specs.Ticks.{tick_at};
+ghost use Rattle.path_constraints.specs.Places.{system_below};
+ghost use Rattle.path_constraints.specs.Ticks.{tick_at};
 ghost use Rattle.period_constraints.specs.Lookups.{IsLookupOf};
 ghost use Rattle.node_expand.specs.PathSystems.{IsAt};
 ghost use Rattle.node_expand.specs.Settled.{HasTanks, HasHoists};
@@ -28,8 +30,8 @@ use period_constraints::{Lookup, base_of, child_count};
 use std::alloc::{AllocError, Global};
 use std::marker::Model;
 
-/// Expands the paths of one line, one after another, in room that is used again. It remembers the climbs of recent paths,
-/// and is seen as its line.
+/// Expands the paths of one line, one after another, in room that is used again. It remembers the climbs of recent
+/// paths, and is seen as its line.
 #[derive(Drop)]
 pub struct Expander {
     line: Line,
@@ -104,6 +106,7 @@ fn expand_least(
     least: LeastPeriod,
     question: Option<Question>,
 ) -> Result<Expanded, AllocError>
+    requires valid { IsLine line.now }
     requires fits { FitsPath line.now path.now }
     requires reach { NoneStuck line.now path.now }
     requires least { IsLeastPeriodOf line.now path.now least }
@@ -113,7 +116,6 @@ fn expand_least(
     ensures shows { IfOk result (λ x. (cap : ℕ) → least.period < cap → Shows line.now path.now cap x) }
     ensures few { IfOk result HasShortWalks }
 {
-    let _inner = line.inner();
     let LeastPeriod { period, low, ticks } = least;
     match question {
         Some(question) => Ok(Expanded::Split {
@@ -138,6 +140,7 @@ fn expand_again(
     least: &LeastPeriod,
 ) -> Result<Expanded, AllocError>
     requires lookup { IsLookupOf line.now lookup.old }
+    requires valid { IsLine line.now }
     requires fits { FitsPath line.now path.now }
     requires reach { NoneStuck line.now path.now }
     requires least { IsLeastPeriodOf line.now path.now least.now }
@@ -174,7 +177,8 @@ fn remember(
     }
 }
 
-// What comes of a path with this least feasible period, which is remembered where a question on a hoist splits the path.
+// What comes of a path with this least feasible period, which is remembered where a question on a hoist splits the
+// path.
 fn expand_first(
     alloc: Global,
     lookup: &mut Lookup,
@@ -185,6 +189,7 @@ fn expand_first(
 ) -> Result<Expanded, AllocError>
     requires lookup { IsLookupOf line.now lookup.old }
     requires climbs { AreClimbs line.now climbs.old }
+    requires valid { IsLine line.now }
     requires fits { FitsPath line.now path.now }
     requires reach { NoneStuck line.now path.now }
     requires least { IsLeastPeriodOf line.now path.now least }
@@ -200,39 +205,6 @@ fn expand_first(
     remember(alloc, climbs, path, &least, question)?;
     let expanded = expand_least(alloc, line, path, least, question)?;
     Ok(expanded)
-}
-
-// What comes of a path that the system is at, where some hoist may reach every move.
-fn expand_at(
-    alloc: Global,
-    room: &mut Room,
-    lookup: &mut Lookup,
-    climbs: &mut Climbs,
-    at: &PathSystem,
-    line: &Line,
-    path: &[Decision],
-    cap: u32,
-) -> Result<Expanded, AllocError>
-    requires lookup { IsLookupOf line.now lookup.old }
-    requires climbs { AreClimbs line.now climbs.old }
-    requires at { IsAt line.now path.now at.now }
-    requires fits { FitsPath line.now path.now }
-    requires reach { NoneStuck line.now path.now }
-    requires cap { (2 ≤ cap) × (cap ≤ 20001) }
-    ensures lookup { lookup.new ≡ lookup.old }
-    ensures climbs { AreClimbs line.now climbs.new }
-    ensures expansion { IfOk result (λ x. IsExpansion line.now path.now cap x) }
-    ensures shows { IfOk result (λ x. Shows line.now path.now cap x) }
-    ensures few { IfOk result HasShortWalks }
-{
-    let climb = climb_at(alloc, room, at, line, path, cap)?;
-    match climb {
-        PathClimb::Shut { low, high } => Ok(Expanded::Closed { low, high }),
-        PathClimb::Least(least) => {
-            let expanded = expand_first(alloc, lookup, climbs, line, path, least)?;
-            Ok(expanded)
-        }
-    }
 }
 
 impl Expander {
@@ -268,7 +240,7 @@ impl Expander {
         requires line { self.old ≡ line.now }
         requires fits { FitsPath line.now path.now }
         requires short { length path.now ≤ 20000 }
-        requires cap { (2 ≤ cap) × (cap ≤ 20001) }
+        requires cap { IsCap cap }
         ensures same { self.new ≡ self.old }
         ensures expansion { IfOk result (λ x. IsExpansion line.now path.now cap x) }
         ensures shows { IfOk result (λ x. Shows line.now path.now cap x) }
@@ -277,8 +249,7 @@ impl Expander {
         if let Some(m) = self.reach.first_stuck(line, path) {
             return Ok(Expanded::Stuck { m });
         }
-        let expanded = self.expand_reached(alloc, line, path, cap)?;
-        Ok(expanded)
+        self.expand_reached(alloc, line, path, cap)
     }
 
     // The expansion of a path where some hoist may reach every move: by a climb that is remembered, or else by one of
@@ -294,30 +265,33 @@ impl Expander {
         requires fits { FitsPath line.now path.now }
         requires reach { NoneStuck line.now path.now }
         requires short { length path.now ≤ 20000 }
-        requires cap { (2 ≤ cap) × (cap ≤ 20001) }
+        requires cap { IsCap cap }
         ensures same { self.new ≡ self.old }
         ensures expansion { IfOk result (λ x. IsExpansion line.now path.now cap x) }
         ensures shows { IfOk result (λ x. Shows line.now path.now cap x) }
         ensures few { IfOk result HasShortWalks }
     {
-        let _inner = line.inner();
         if let Some(k) = find_climb(&mut self.climbs, path, cap) {
             let least = &self.climbs.kept[k].least;
             let expanded = expand_again(alloc, &mut self.lookup, line, path, least)?;
             return Ok(expanded);
         }
         self.at.go_to(line, path)?;
-        let expanded = expand_at(
-            alloc,
-            &mut self.room,
-            &mut self.lookup,
-            &mut self.climbs,
-            &self.at,
-            line,
-            path,
-            cap,
-        )?;
-        Ok(expanded)
+        let climb = climb_at(alloc, &mut self.room, &self.at, line, path, cap)?;
+        match climb {
+            PathClimb::Shut { low, high } => Ok(Expanded::Closed { low, high }),
+            PathClimb::Least(least) => {
+                let expanded = expand_first(
+                    alloc,
+                    &mut self.lookup,
+                    &mut self.climbs,
+                    line,
+                    path,
+                    least,
+                )?;
+                Ok(expanded)
+            }
+        }
     }
 }
 
@@ -332,14 +306,13 @@ pub fn expand_on(
     requires base { base.now ≡ system_below line.now [] }
     requires fits { FitsPath line.now path.now }
     requires short { length path.now ≤ 20000 }
-    requires cap { (2 ≤ cap) × (cap ≤ 20001) }
+    requires cap { IsCap cap }
     ensures expansion { IfOk result (λ x. IsExpansion line.now path.now cap x) }
     ensures shows { IfOk result (λ x. Shows line.now path.now cap x) }
     ensures few { IfOk result HasShortWalks }
 {
     let mut expander = Expander::new(alloc, line, base)?;
-    let expanded = expander.expand(alloc, line, path, cap)?;
-    Ok(expanded)
+    expander.expand(alloc, line, path, cap)
 }
 
 /// The expansion of a path under a cap.
@@ -351,12 +324,11 @@ pub fn expand(
 ) -> Result<Expanded, AllocError>
     requires fits { FitsPath line.now path.now }
     requires short { length path.now ≤ 20000 }
-    requires cap { (2 ≤ cap) × (cap ≤ 20001) }
+    requires cap { IsCap cap }
     ensures expansion { IfOk result (λ x. IsExpansion line.now path.now cap x) }
     ensures shows { IfOk result (λ x. Shows line.now path.now cap x) }
     ensures few { IfOk result HasShortWalks }
 {
     let base = base_of(alloc, line)?;
-    let expanded = expand_on(alloc, line, &base, path, cap)?;
-    Ok(expanded)
+    expand_on(alloc, line, &base, path, cap)
 }

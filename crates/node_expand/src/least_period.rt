@@ -1,10 +1,12 @@
 // The least feasible period of a path.
 ghost use Rattle.std.specs.Prelude.{◌≡◌, ℕ, ◌<◌, ◌≤◌, length, map, get_or, option_map, IfOk, IfSome};
+ghost use Rattle.hoist_base.specs.Valid.{IsLine};
+ghost use Rattle.longest_path.specs.Bounds.{IsPeriod, IsCap};
 ghost use Rattle.longest_path.specs.System.{IsLeastSolution};
 ghost use Rattle.cycle_walk.specs.Closed.{IsFeasible};
 ghost use Rattle.choice_tree.specs.declared.constraint.Constraint.{Constraint};
-ghost use Rattle.period_constraints.specs.Places.{system_below};
-ghost use Rattle.period_constraints.specs.Ticks.{AreTicks};
+ghost use Rattle.path_constraints.specs.Places.{system_below};
+ghost use Rattle.path_constraints.specs.Ticks.{AreTicks};
 ghost use Rattle.node_expand.specs.PathSystems.{IsAt};
 ghost use Rattle.node_expand.specs.Climbs.{IsPathClimb};
 
@@ -73,13 +75,13 @@ fn ticks_at(
     path: &[Decision],
     period: u32,
 ) -> Result<Ticks, AllocError>
+    requires valid { IsLine line.now }
     requires at { IsAt line.now path.now at.now }
-    requires period { (1 ≤ period) × (period ≤ 20001) }
+    requires period { IsPeriod period }
     requires feasible { IsFeasible (system_below line.now path.now) period }
     ensures least { IfOk result (λ ticks. IsLeastSolution (system_below line.now path.now) period ticks) }
     ensures ticks { IfOk result (λ ticks. AreTicks line.now ticks) }
 {
-    let _inner = line.inner();
     match least_in(alloc, room, &at.system, period)? {
         LeastTicks::Feasible(ticks) => Ok(Ticks::from_vec(ticks)),
         LeastTicks::Positive => unreachable!(),
@@ -95,11 +97,11 @@ pub(crate) fn climb_at(
     path: &[Decision],
     cap: u32,
 ) -> Result<PathClimb, AllocError>
+    requires valid { IsLine line.now }
     requires at { IsAt line.now path.now at.now }
-    requires cap { (2 ≤ cap) × (cap ≤ 20001) }
+    requires cap { IsCap cap }
     ensures { IfOk result (λ x. IsPathClimb line.now path.now cap x) }
 {
-    let _inner = line.inner();
     let _nodes = at.system.nodes();
     match climb_in(alloc, room, &at.system, cap)? {
         Climbed::Shut { low, high } => {

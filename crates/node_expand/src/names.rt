@@ -1,9 +1,10 @@
 // The names of the constraints that stand on every path, in their order.
 ghost use Rattle.std.specs.Prelude.{◌≡◌, ◌+◌, ◌<◌, ◌≤◌, [], ◌∷◌, ◌++◌, map, flat_map, is_some, if◌then◌else◌, IfOk, OnOk};
 ghost use Rattle.hoist_base.specs.LineData.{stage};
+ghost use Rattle.hoist_base.specs.Valid.{IsLine};
 ghost use Rattle.choice_tree.specs.declared.constraint.Constraint.{Constraint};
 ghost use Rattle.choice_tree.specs.Nodes.{numbers_from};
-ghost use Rattle.period_constraints.specs.Constraints.{inner_stages, undecided_list};
+ghost use Rattle.path_constraints.specs.Constraints.{inner_stages, undecided_list};
 
 use choice_tree::Constraint;
 use hoist_base::Line;
@@ -53,7 +54,8 @@ fn push_repeats(names: &mut Vec<Constraint>, c: u32, count: u32) -> Result<(), A
 
 /// The names of the constraints of a line before any decision, in their order.
 pub(crate) fn undecided_names(alloc: Global, line: &Line) -> Result<Vec<Constraint>, AllocError>
-    ensures { IfOk result (λ names. names.items ≡ undecided_list line.now) }
+    ensures names { IfOk result (λ names. names.items ≡ undecided_list line.now) }
+    ensures valid { IsLine line.now }
 {
     let inner = line.inner();
     let mut names = Vec::new(alloc);

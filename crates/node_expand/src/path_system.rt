@@ -1,10 +1,9 @@
 // The constraints of a path, kept from path to path.
 ghost use Rattle.std.specs.Prelude.{◌≡◌, ℕ, ◌+◌, ◌<◌, ◌≤◌, [], ◌++◌, length, take, map, get_or, IfOk, OnOk, OnErr};
-ghost use Rattle.hoist_base.specs.Valid.{IsLine};
 ghost use Rattle.choice_tree.specs.declared.constraint.Constraint.{Constraint};
-ghost use Rattle.period_constraints.specs.Constraints.{decided_by};
-ghost use Rattle.period_constraints.specs.Questions.{FitsPath};
-ghost use Rattle.period_constraints.specs.Places.{system_below};
+ghost use Rattle.path_constraints.specs.Constraints.{decided_by};
+ghost use Rattle.path_constraints.specs.Questions.{FitsPath};
+ghost use Rattle.path_constraints.specs.Places.{system_below};
 ghost use Rattle.node_expand.specs.PathSystems.{IsPathSystem, IsAt, Outgrows, IsPrefix};
 
 use crate::names::undecided_names;
@@ -12,7 +11,7 @@ use choice_tree::{Constraint, Decision, Proof, Question};
 use cycle_walk::Walk;
 use hoist_base::Line;
 use longest_path::System;
-use period_constraints::decide;
+use path_constraints::decide;
 use std::alloc::{AllocError, Global};
 
 /// A path, the system of its constraints, and their names in the order of the system.
@@ -127,10 +126,8 @@ impl PathSystem {
     // Goes back to the path without decisions.
     fn restart(&mut self, line: &Line)
         requires { IsPathSystem line.now self.old }
-        ensures start { IsAt line.now [] self.new }
-        ensures valid { IsLine line.now }
+        ensures { IsAt line.now [] self.new }
     {
-        let _inner = line.inner();
         self.path.clear();
         self.names.truncate(self.base.arcs().len());
         restore(&mut self.system, &self.base);
@@ -144,7 +141,6 @@ impl PathSystem {
         ensures prefix { IsPrefix self.new.path.items self.old.path.items }
         ensures shorter { length self.new.path.items < length self.old.path.items }
     {
-        let _inner = line.inner();
         let count = self.path.len() - 1;
         match self.path[count].question {
             Question::Choose { .. } => self.restart(line),

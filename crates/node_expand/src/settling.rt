@@ -2,15 +2,15 @@
 ghost use Rattle.std.specs.Prelude.{◌≡◌, ℕ, length, get_or, Some, IsSome, IfOk};
 ghost use Rattle.hoist_base.specs.LineData.{IsMove, IsVisit, move_number, move_count};
 ghost use Rattle.hoist_base.specs.Routes.{IsRoute, route_tank};
-ghost use Rattle.period_constraints.specs.Questions.{FitsPath};
-ghost use Rattle.period_constraints.specs.Tanks.{tank_below};
-ghost use Rattle.period_constraints.specs.Hoists as below;
+ghost use Rattle.path_constraints.specs.Questions.{FitsPath};
+ghost use Rattle.path_constraints.specs.Tanks.{tank_below};
+ghost use Rattle.path_constraints.specs.Hoists as below;
 ghost use Rattle.node_expand.specs.Settled.{HasTanks, HasHoists};
 
 use crate::solved::Hoists;
 use choice_tree::Decision;
-use hoist_base::{Line, MoveId, Route, VisitId};
-use period_constraints::{hoist_below, tanks_below};
+use hoist_base::{Line, MoveId, Route};
+use path_constraints::{hoist_below, tanks_below};
 use std::alloc::{AllocError, Global};
 
 // The hoist of a move that the path leaves one.
@@ -33,15 +33,10 @@ pub(crate) fn hoists_of(alloc: Global, line: &Line, path: &[Decision]) -> Result
     ensures count { IfOk result (λ hoists. length hoists ≡ move_count line.now) }
     ensures value { IfOk result (λ hoists. (c k : ℕ) → IsMove line.now c k → below.hoist_below line.now path.now c k ≡ Some (get_or hoists (move_number line.now c k) 0)) }
 {
-    let steps = line.inner() + 1;
-    let count = line.degree() * steps;
+    let count = line.move_count();
     let mut numbers = Vec::with_capacity(alloc, count as usize)?;
-    for i in 0..count {
-        let m = MoveId {
-            carrier: i / steps,
-            step: i % steps,
-        };
-        numbers.push(hoist_of(line, path, m))?;
+    for number in 0..count {
+        numbers.push(hoist_of(line, path, line.move_at(number)))?;
     }
     Ok(Hoists::from_vec(numbers))
 }
@@ -53,15 +48,10 @@ pub(crate) fn route_of(alloc: Global, line: &Line, path: &[Decision]) -> Result<
     ensures route { IfOk result (λ route. IsRoute line.now route) }
     ensures value { IfOk result (λ route. (c k : ℕ) → IsVisit line.now c k → tank_below line.now path.now c k ≡ Some (route_tank line.now route c k)) }
 {
-    let stages = line.inner() + 2;
-    let count = line.degree() * stages;
+    let count = line.visit_count();
     let mut numbers = Vec::with_capacity(alloc, count as usize)?;
-    for i in 0..count {
-        let v = VisitId {
-            carrier: i / stages,
-            stage: i % stages,
-        };
-        numbers.push(tanks_below(line, path, v)[0])?;
+    for number in 0..count {
+        numbers.push(tanks_below(line, path, line.visit_at(number))[0])?;
     }
     Ok(Route::from_vec(numbers))
 }

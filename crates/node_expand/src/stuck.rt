@@ -1,16 +1,14 @@
 // Moves that no hoist may reach.
-ghost use Rattle.std.specs.Prelude.{◌≡◌, ℕ, ◌+◌, ◌<◌, ◌↔◌, MatchOption, IsTrue};
-ghost use Rattle.hoist_base.specs.LineData.{IsMove, IsStep, IsVisit};
-ghost use Rattle.hoist_base.specs.Valid.{IsLine};
-ghost use Rattle.period_constraints.specs.Questions.{FitsPath};
-ghost use Rattle.period_constraints.specs.Tanks.{MayServe, MayReach, IsStuck};
+ghost use Rattle.std.specs.Prelude.{ℕ, ◌<◌, MatchOption};
+ghost use Rattle.hoist_base.specs.LineData.{IsStep};
+ghost use Rattle.path_constraints.specs.Questions.{FitsPath};
+ghost use Rattle.path_constraints.specs.Tanks.{IsStuck};
 ghost use Rattle.node_expand.specs.Expansion.{NoneStuck, IsFirstStuck};
 ghost use Rattle.node_expand.specs.Reaching.{IsReachOf};
 
 use choice_tree::Decision;
-use hoist_base::{Line, MoveId, VisitId};
-use move_list::reaches_place;
-use period_constraints::tanks_below;
+use hoist_base::{Line, MoveId};
+use path_constraints::is_stuck;
 
 /// Which move no hoist may reach.
 ///
@@ -21,59 +19,6 @@ pub(crate) struct Reach {
     pub(crate) single: bool,
     /// The least move that no hoist may reach before any decision.
     pub(crate) stuck: Option<MoveId>,
-}
-
-// Whether a hoist reaches some tank that is open to a visit.
-fn may_serve(line: &Line, path: &[Decision], h: u32, visit: VisitId) -> bool
-    requires fits { FitsPath line.now path.now }
-    requires hoist { h < line.now.hoists }
-    requires there { IsVisit line.now visit.carrier visit.stage }
-    ensures value { IsTrue result ↔ MayServe line.now path.now h visit.carrier visit.stage }
-    ensures valid { IsLine line.now }
-{
-    let tanks = tanks_below(line, path, visit);
-    for i in 0..tanks.len() {
-        if reaches_place(line, h, line.at(tanks[i])) {
-            return true;
-        }
-    }
-    false
-}
-
-// Whether a hoist may reach a move.
-fn may_reach(line: &Line, path: &[Decision], h: u32, m: MoveId) -> bool
-    requires fits { FitsPath line.now path.now }
-    requires hoist { h < line.now.hoists }
-    requires there { IsMove line.now m.carrier m.step }
-    ensures { IsTrue result ↔ MayReach line.now path.now h m.carrier m.step }
-{
-    let carrier = m.carrier;
-    let from = VisitId {
-        carrier,
-        stage: m.step,
-    };
-    if !may_serve(line, path, h, from) {
-        return false;
-    }
-    let to = VisitId {
-        carrier,
-        stage: m.step + 1,
-    };
-    may_serve(line, path, h, to)
-}
-
-// Whether no hoist may reach a move.
-fn is_stuck(line: &Line, path: &[Decision], m: MoveId) -> bool
-    requires fits { FitsPath line.now path.now }
-    requires there { IsMove line.now m.carrier m.step }
-    ensures { IsTrue result ↔ IsStuck line.now path.now m.carrier m.step }
-{
-    for h in 0..line.hoists() {
-        if may_reach(line, path, h, m) {
-            return false;
-        }
-    }
-    true
 }
 
 // The first step of a carrier's moves that no hoist may reach.

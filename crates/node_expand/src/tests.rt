@@ -1,12 +1,13 @@
 // Expansions of the worked lines.
-ghost use Rattle.std.specs.Prelude.{◌≡◌, ◌≤◌, [], ◌∷◌, length, IfSome};
-ghost use Rattle.period_constraints.specs.Questions.{FitsPath};
+ghost use Rattle.std.specs.Prelude.{◌≡◌, ◌≤◌, [], ◌∷◌, length, IfOk, IfSome};
+ghost use Rattle.longest_path.specs.Bounds.{IsCap};
+ghost use Rattle.path_constraints.specs.Questions.{FitsPath};
 ghost use Rattle.node_expand.specs.Shown.{Shows};
 
-use crate::{Expanded, Expander, expand, expand_on};
+use crate::{Expanded, Expander, expand};
 use choice_tree::{Constraint, Decision, Proof, Question};
 use hoist_base::{Line, MoveId, VisitId};
-use period_constraints::{base_of, decide};
+use path_constraints::base_of;
 use std::alloc::{AllocError, Global};
 use std::test::Fail;
 use worked_lines::{Numbers, Row, far_tank, line_of_rows, one_bath, slow_choice, two_hoists};
@@ -113,9 +114,17 @@ fn is_stuck_at_once(expanded: &Expanded) -> bool {
     }
 }
 
+// The expansion before any decision.
+fn root_of(alloc: Global, line: &Line, cap: u32) -> Result<Expanded, AllocError>
+    requires { IsCap cap }
+    ensures { IfOk result (λ x. Shows line.now [] cap x) }
+{
+    expand(alloc, line, &[], cap)
+}
+
 // The expansion below a child of the question that is asked before any other.
 fn child_of_root(alloc: Global, line: &Line, child: u32) -> Result<Option<Expanded>, AllocError> {
-    let root = expand(alloc, line, &[], 101)?;
+    let root = root_of(alloc, line, 101)?;
     match decision_of(line, &root, child) {
         None => Ok(None),
         Some(decision) => Ok(Some(expand(alloc, line, &[decision], 101)?)),
@@ -126,7 +135,7 @@ fn child_of_root(alloc: Global, line: &Line, child: u32) -> Result<Option<Expand
 fn expand_two_hoists(rt: HostRuntime) -> Result<(), Fail> {
     let alloc = rt.alloc();
     let line = two_hoists(alloc).ok_or("no line")?;
-    let root = expand(alloc, &line, &[], 101)?;
+    let root = root_of(alloc, &line, 101)?;
     let back = Constraint::Repeat { c: 0, k: 0 };
     assert!(rt; splits_in_two(&root, on_moves(-1), 8, &[back]));
     let rising = [
@@ -135,26 +144,28 @@ fn expand_two_hoists(rt: HostRuntime) -> Result<(), Fail> {
     ];
     let closed = child_of_root(alloc, &line, 0)?.ok_or("no child")?;
     assert!(rt; closes(&closed, &[back], &rising));
+    let walk = [Constraint::Min { c: 0, k: 1 }, Constraint::Decided { i: 0 }];
+    let solved = child_of_root(alloc, &line, 1)?.ok_or("no child")?;
+    assert!(rt; solves(&solved, 9, &walk));
+    assert!(rt; plans(&solved, &[0, 10], &[0, 1], &[0, 1, 2]));
     Ok(())
 }
 
-#[test]
-fn decide_and_expand_on(rt: HostRuntime) -> Result<(), Fail> {
-    let alloc = rt.alloc();
-    let line = two_hoists(alloc).ok_or("no line")?;
-    let mut base = base_of(alloc, &line)?;
-    let root = expand(alloc, &line, &[], 101)?;
-    let path = [decision_of(&line, &root, 1).ok_or("no child")?];
-    let expanded = expand_on(alloc, &line, &base, &path, 101)?;
-    let walk = [Constraint::Min { c: 0, k: 1 }, Constraint::Decided { i: 0 }];
-    assert!(rt; solves(&expanded, 9, &walk));
-    assert!(rt; plans(&expanded, &[0, 10], &[0, 1], &[0, 1, 2]));
-    assert!(rt; decide(&mut base, &line, &path, 0)?);
-    assert_eq!(rt;
-        base.arcs().last().map(|a| (a.from, a.to, a.w, a.q)),
-        Some((1, 0, -1, -1))
-    );
-    Ok(())
+// One expander at the root, at a child of it and at the root again.
+fn there_and_back(
+    alloc: Global,
+    line: &Line,
+    child: u32,
+) -> Result<Option<(Expanded, Expanded)>, AllocError> {
+    let base = base_of(alloc, line)?;
+    let mut expander = Expander::new(alloc, line, &base)?;
+    let root = expander.expand(alloc, line, &[], 101)?;
+    let Some(decision) = decision_of(line, &root, child) else {
+        return Ok(None);
+    };
+    let below = expander.expand(alloc, line, &[decision], 101)?;
+    let again = expander.expand(alloc, line, &[], 101)?;
+    Ok(Some((below, again)))
 }
 
 // One expander goes below a choice and takes it back.
@@ -162,22 +173,10 @@ fn decide_and_expand_on(rt: HostRuntime) -> Result<(), Fail> {
 fn over_a_choice(rt: HostRuntime) -> Result<(), Fail> {
     let alloc = rt.alloc();
     let line = far_tank(alloc).ok_or("no line")?;
-    let base = base_of(alloc, &line)?;
     let back = Constraint::Repeat { c: 0, k: 0 };
-    let mut expander = Expander::new(alloc, &line, &base)?;
-    let root = expander.expand(alloc, &line, &[], 101)?;
-    let near = decision_of(&line, &root, 1).ok_or("no child")?;
-    let open = expander.expand(alloc, &line, &[near], 101)?;
-    assert!(rt; splits_in_two(&open, on_moves(-1), 8, &[back]));
-    let again = expander.expand(alloc, &line, &[], 101)?;
+    let (near, again) = there_and_back(alloc, &line, 1)?.ok_or("no child")?;
+    assert!(rt; splits_in_two(&near, on_moves(-1), 8, &[back]));
     assert!(rt; splits_in_two(&again, choose(1), 8, &[back]));
-    Ok(())
-}
-
-#[test]
-fn far_tank_children(rt: HostRuntime) -> Result<(), Fail> {
-    let alloc = rt.alloc();
-    let line = far_tank(alloc).ok_or("no line")?;
     let far = child_of_root(alloc, &line, 0)?.ok_or("no child")?;
     assert!(rt; is_stuck_at_once(&far));
     Ok(())
@@ -212,7 +211,7 @@ fn unreached(rt: HostRuntime) -> Result<(), Fail> {
     let line = line_of_rows(alloc, numbers, &[("load", 0), ("out", 4)], &[station, end]).ok_or(
         "no line",
     )?;
-    let root = expand(alloc, &line, &[], 101)?;
+    let root = root_of(alloc, &line, 101)?;
     assert!(rt; is_stuck_at_once(&root));
     Ok(())
 }
@@ -221,7 +220,7 @@ fn unreached(rt: HostRuntime) -> Result<(), Fail> {
 fn one_bath_root(rt: HostRuntime) -> Result<(), Fail> {
     let alloc = rt.alloc();
     let line = one_bath(alloc).ok_or("no line")?;
-    let root = expand(alloc, &line, &[], 101)?;
+    let root = root_of(alloc, &line, 101)?;
     let back = [Constraint::Repeat { c: 0, k: 0 }];
     assert!(rt; splits_in_two(&root, on_moves(-2), 8, &back));
     Ok(())
@@ -232,7 +231,7 @@ fn one_bath_root(rt: HostRuntime) -> Result<(), Fail> {
 fn slow_choice_root(rt: HostRuntime) -> Result<(), Fail> {
     let alloc = rt.alloc();
     let line = slow_choice(alloc).ok_or("no line")?;
-    let root = expand(alloc, &line, &[], 51)?;
+    let root = root_of(alloc, &line, 51)?;
     let walk = [
         Constraint::Min { c: 0, k: 1 },
         Constraint::Visit { c: 0, k: 1 },
@@ -275,57 +274,81 @@ fn both_reach(alloc: Global) -> Option<Line> {
     line_of_rows(alloc, numbers, &tanks, &[station, bath, end])
 }
 
-// Whether an expander that expanded other paths gives what a new one gives.
+// The period of an expansion that has one.
+fn period_of(expanded: &Expanded) -> Option<u32> {
+    match expanded {
+        Expanded::Solved { solved, .. } => Some(solved.period),
+        Expanded::Split { period, .. } => Some(*period),
+        _ => None,
+    }
+}
+
+// Whether an expander that expanded other paths gives what a new one gives, and the period.
 fn agrees(
     alloc: Global,
     expander: &mut Expander,
     line: &Line,
     path: &[Decision],
     cap: u32,
-) -> Result<bool, AllocError>
+) -> Result<(bool, Option<u32>), AllocError>
     requires line { expander.old ≡ line.now }
     requires fits { FitsPath line.now path.now }
     requires short { length path.now ≤ 20000 }
-    requires cap { (2 ≤ cap) × (cap ≤ 20001) }
+    requires cap { IsCap cap }
     ensures { expander.new ≡ expander.old }
 {
     let old = expander.expand(alloc, line, path, cap)?;
     let new = expand(alloc, line, path, cap)?;
     let same = format!(in alloc; "{old:?}")? == format!(in alloc; "{new:?}")?;
-    Ok(same)
+    Ok((same, period_of(&old)))
 }
 
-// Whether an expander that expanded the root gives its child under a cap as a new one gives it.
-fn child_agrees(alloc: Global, line: &Line, child: u32, cap: u32) -> Result<bool, AllocError>
-    requires cap { (2 ≤ cap) × (cap ≤ 20001) }
+// The same of the root's child under a cap, by an expander that expanded the root.
+fn child_agrees(
+    alloc: Global,
+    line: &Line,
+    child: u32,
+    cap: u32,
+) -> Result<Option<(bool, Option<u32>)>, AllocError>
+    requires cap { IsCap cap }
 {
     let base = base_of(alloc, line)?;
     let mut expander = Expander::new(alloc, line, &base)?;
     let root = expander.expand(alloc, line, &[], 101)?;
-    match decision_of(line, &root, child) {
-        None => Ok(false),
-        Some(decision) => {
-            let same = agrees(alloc, &mut expander, line, &[decision], cap)?;
-            Ok(same)
-        }
-    }
+    let Some(decision) = decision_of(line, &root, child) else {
+        return Ok(None);
+    };
+    let found = agrees(alloc, &mut expander, line, &[decision], cap)?;
+    Ok(Some(found))
 }
 
-// A question on a hoist splits the root at period 6. Its children come out as without the root's climb, under caps above
-// that period, at it and below it.
+// A question on a hoist splits the root at period 6. A decision on it adds no constraint: its children have that period
+// under the caps above it, and none under the others, with the root's climb as without it.
 #[test]
 fn children_of_hoists(rt: HostRuntime) -> Result<(), Fail> {
     let alloc = rt.alloc();
     let line = both_reach(alloc).ok_or("no line")?;
-    let root = expand(alloc, &line, &[], 101)?;
+    let root = root_of(alloc, &line, 101)?;
     let back = Constraint::Repeat { c: 0, k: 0 };
     let m = MoveId {
         carrier: 0,
         step: 0,
     };
     assert!(rt; splits_in_two(&root, Question::Assign { m }, 6, &[back]));
-    for (child, cap) in [(0, 101), (0, 7), (0, 6), (1, 5), (1, 101)] {
-        assert!(rt; child_agrees(alloc, &line, child, cap)?);
+    let rows = [
+        (0, 101, Some(6)),
+        (0, 7, Some(6)),
+        (0, 6, None),
+        (1, 5, None),
+        (1, 101, Some(6)),
+    ];
+    for (child, cap, period) in rows {
+        let want = Some((true, period));
+        assert_eq!(rt;
+            child_agrees(alloc, &line, child, cap)?,
+            want,
+            "{child} {cap}"
+        );
     }
     Ok(())
 }

@@ -15,7 +15,8 @@ use Rattle.path_envelope.specs.declared.point.Point.{Point}
 use Rattle.path_envelope.specs.Duties.{HaveReach, IsFixed, apart, Agree}
 use Rattle.path_envelope.specs.Envelope.{on_paths, IsLowestAt, AreLowest}
 use Rattle.path_envelope.specs.Slots.{FixesSlot, entry, AreLayers}
-use Rattle.path_envelope.proofs.ShiftLemmas.{shifted, shift, in_slot, slot_of, turns_of, times_add}
+use Rattle.list_facts.proofs.Products.{times_add}
+use Rattle.path_envelope.proofs.ShiftLemmas.{shifted, shift, in_slot, slot_of, turns_of}
 
 -- a fixed point leaves the hoists below and above their room
 pub point_reach : (l : LineData) (p : Timetable) (x : Point) → HaveReach l p → IsFixed l p x

@@ -1,18 +1,18 @@
 -- The first fixed point of a kind, by moves and hoists; and partners by their nearest copies.
-use Rattle.std.proofs.Common.{◌≡◌, ℕ, ◌+◌, ◌-◌, ◌*◌, ◌/◌, ◌%◌, ◌≤◌, ◌<◌, inl, inr, ⊎_elim, ◌∙◌, List, get_or, refl, sym, ap, subst, suc, arith, ℤ, pos, ◌+ℤ◌, ◌-ℤ◌, ◌*ℤ◌}
+use Rattle.std.proofs.Common.{◌≡◌, ℕ, ◌+◌, ◌-◌, ◌*◌, ◌/◌, ◌%◌, ◌≤◌, ◌<◌, inl, inr, ⊎_elim, ◌∙◌, List, get_or, refl, sym, ap, subst, arith, ℤ, pos, ◌+ℤ◌, ◌-ℤ◌, ◌*ℤ◌}
 use Rattle.std.specs.Prelude.{unsigned_abs}
 use Rattle.std.proofs.lemmas.Int.{ints}
 use Rattle.std.proofs.lemmas.Bool.{cases_lt}
-use Rattle.std.proofs.lemmas.Nat.{mul-le}
-use Rattle.hoist_base.specs.LineData.{LineData, IsMove, last_stage, move_number, move_count}
+use Rattle.hoist_base.specs.LineData.{LineData, IsMove, last_stage, move_count}
 use Rattle.hoist_base.specs.Routes.{route_tank}
+use Rattle.hoist_base.proofs.NumberLemmas.{move_below}
 use Rattle.line_model.specs.declared.motion.Motion.{Motion}
 use Rattle.line_model.specs.Motion.{duration, place, motion_by}
 use Rattle.line_model.specs.Timetable.{Timetable, motion}
 use Rattle.path_envelope.specs.declared.point.Point.{Point}
 use Rattle.path_envelope.specs.Duties.{duties, HaveReach, IsFixed, apart, Contradict, Agree}
 use Rattle.path_envelope.specs.FirstClash.{Given, IsGiven, copy, hoist_of, number_of, IsFirst, IsPartner, HasPartner, IsFirstPartner, IsFirstClash, IsNearestTick, NoneOfMove, NoneOfHoist, NoneOfHoists, IsFirstOfMove, IsFirstOfHoist, IsNearestCopy, AreClash}
-use Rattle.path_envelope.proofs.ShiftLemmas.{times_add}
+use Rattle.list_facts.proofs.Products.{times_add}
 use Rattle.path_envelope.proofs.TableLemmas.{numbered, same_move}
 
 -- a given point is its move's at the ticks
@@ -22,13 +22,6 @@ same_given l p IsOfKind g h a b n t kind =
     subst (λ (u : ℕ). IsOfKind (record { carrier = h.carrier; step = h.step; ticks = u })) t
     (subst (λ (k : ℕ). IsOfKind (record { carrier = h.carrier; step = k; ticks = g.ticks })) e.1
     (subst (λ (c : ℕ). IsOfKind (record { carrier = c; step = g.step; ticks = g.ticks })) e.0 kind))
-
--- numbers of moves are below their count
-pub move_below : (l : LineData) (c k : ℕ) → IsMove l c k → move_number l c k < move_count l
-move_below l c k move =
-    let up : c * last_stage l + last_stage l ≤ l.degree * last_stage l =
-    omega (arith, mul-le (suc c) (last_stage l) l.degree (last_stage l) (omega (arith, move.0)) (omega arith)) in
-    omega (arith, up, move.1)
 
 pub first_of_hoist : (l : LineData) (p : Timetable) (IsOfKind : Given → Type 0) (h n : ℕ) (g : Given) → NoneOfHoist l p IsOfKind h n → hoist_of p g ≡ h → IsFirstOfMove l p IsOfKind n g → IsFirstOfHoist l p IsOfKind h g
 first_of_hoist l p IsOfKind h n g none own first = record {
@@ -98,7 +91,7 @@ pub record Seen (l : LineData) (route : List ℕ) (n : ℕ) (m : Motion) : Type 
 pub motion_at : (l : LineData) (route starts hoists : List ℕ) (period n : ℕ) (m : Motion) (g : Given) → Seen l route n m → IsMove l g.carrier g.step → number_of l g ≡ n
     → m ≡ motion l (duties l route period starts hoists) g.carrier g.step
 motion_at l route starts hoists period n m g seen move number =
-    let r = numbered l n (last_stage l) refl seen.inside seen.some in
+    let r = numbered l n seen.inside seen.some in
     let q = same_move l (n / last_stage l) (n % last_stage l) g.carrier g.step r.0 move (r.1 ∙ sym number) in
     subst (λ (k : ℕ). m ≡ motion_by l (route_tank l route g.carrier) k) q.1 (subst (λ (c : ℕ). m ≡ motion_by l (route_tank l route c) (n % last_stage l)) q.0 seen.motion)
 
@@ -137,7 +130,7 @@ pub record At (l : LineData) (route starts hoists : List ℕ) (period n u : ℕ)
 
 pub point_at : (l : LineData) (route starts hoists : List ℕ) (period n u : ℕ) (m : Motion) → Seen l route n m → u ≤ duration m → At l route starts hoists period n u
 point_at l route starts hoists period n u m seen le =
-    let r = numbered l n (last_stage l) refl seen.inside seen.some in
+    let r = numbered l n seen.inside seen.some in
     let le' : u ≤ duration (motion l (duties l route period starts hoists) (n / last_stage l) (n % last_stage l)) = subst (λ (j : Motion). u ≤ duration j) seen.motion le in
     record {
       point = record { carrier = n / last_stage l; step = n % last_stage l; ticks = u };

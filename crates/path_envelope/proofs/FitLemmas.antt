@@ -4,13 +4,14 @@ use Rattle.std.proofs.lemmas.Bool.{cases_lt}
 use Rattle.std.proofs.lemmas.List.{get_or_past}
 use Rattle.hoist_base.specs.LineData.{LineData, IsMove, move_number, move_count}
 use Rattle.hoist_base.specs.Routes.{IsRoute}
+use Rattle.hoist_base.proofs.NumberLemmas.{move_below}
 use Rattle.line_model.specs.declared.motion.Motion.{Motion}
 use Rattle.line_model.specs.Motion.{ReachesMotion}
 use Rattle.line_model.specs.Timetable.{motion}
 use Rattle.path_envelope.specs.Duties.{duties}
 use Rattle.path_envelope.specs.FirstClash.{Given}
 use Rattle.path_envelope.specs.Slots.{AreMoves}
-use Rattle.path_envelope.proofs.FirstLemmas.{Seen, motion_at, move_below}
+use Rattle.path_envelope.proofs.FirstLemmas.{Seen, motion_at}
 
 -- the moves numbered below n start early enough, by hoists of the line that reach them
 pub record FitSoFar (l : LineData) (route : List ℕ) (period : ℕ) (starts hoists : List ℕ) (n : ℕ) : Type 0 where

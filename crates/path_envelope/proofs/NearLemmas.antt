@@ -4,7 +4,8 @@ use Rattle.std.specs.Prelude.{unsigned_abs}
 use Rattle.std.proofs.lemmas.Int.{ints, by_lt_z}
 use Rattle.std.proofs.lemmas.Nat.{div-add-mod', mod_below, mul-le}
 use Rattle.path_envelope.specs.FirstClash.{IsNearestTick, wait}
-use Rattle.path_envelope.proofs.ShiftLemmas.{times_add, times_difference}
+use Rattle.list_facts.proofs.Products.{times_add}
+use Rattle.path_envelope.proofs.ShiftLemmas.{times_difference}
 
 -- whole numbers of periods
 up : (j : ℤ) (k n : ℕ) → pos k ≤ℤ j → pos (k * n) ≤ℤ (j *ℤ pos n)

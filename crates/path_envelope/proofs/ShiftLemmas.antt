@@ -5,7 +5,7 @@ use Rattle.std.proofs.lemmas.Int.{ints}
 use Rattle.std.proofs.lemmas.Bool.{cases_lt}
 use Rattle.std.proofs.lemmas.Nat.{div-add-mod'}
 use Rattle.std.proofs.Math.Nat.{add-mul-mod_self_right}
-use borrow.Author.Differences.{sum_is_lem}
+use Rattle.list_facts.proofs.Products.{times_add}
 use Rattle.hoist_base.specs.LineData.{LineData}
 use Rattle.line_model.specs.Timetable.{Timetable}
 use Rattle.path_envelope.specs.declared.point.Point.{Point}
@@ -13,10 +13,6 @@ use Rattle.path_envelope.specs.Duties.{IsFixed}
 use Rattle.path_envelope.specs.Rows.{IsSlow}
 use Rattle.path_envelope.specs.Slots.{FixesSlot}
 use Rattle.path_envelope.proofs.RowLemmas.{slow_far}
-
--- a sum times a natural number
-pub times_add : (a b : ℤ) (n : ℕ) → (a +ℤ b) *ℤ pos n ≡ a *ℤ pos n +ℤ b *ℤ pos n
-times_add a b n = omega (arith, ints, ap (λ m. m * n) (sum_is_lem a b))
 
 pub times_difference : (a b n : ℕ) → (pos a -ℤ pos b) *ℤ pos n ≡ pos (a * n) -ℤ pos (b * n)
 times_difference a b n =

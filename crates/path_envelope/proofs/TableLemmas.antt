@@ -1,9 +1,10 @@
 -- A table of a hoist's fixed positions, move by move.
-use Rattle.std.proofs.Common.{◌≡◌, ℕ, ◌+◌, ◌*◌, ◌/◌, ◌%◌, ◌≤◌, ◌<◌, ⊎_elim, ◌∙◌, List, Option, Some, get_or, refl, sym, ap, subst, arith}
+use Rattle.std.proofs.Common.{◌≡◌, ℕ, ◌+◌, ◌/◌, ◌%◌, ◌≤◌, ◌<◌, ⊎_elim, ◌∙◌, List, Option, Some, get_or, refl, sym, ap, subst, arith}
 use Rattle.std.proofs.lemmas.Bool.{cases_lt}
-use Rattle.std.proofs.lemmas.Nat.{div-add-mod', mod_below, div_below, same_from_place}
+use Rattle.std.proofs.lemmas.Nat.{mod_below, same_from_place}
 use Rattle.hoist_base.specs.LineData.{LineData, IsMove, last_stage, move_number, move_count}
 use Rattle.hoist_base.specs.Routes.{route_tank}
+use Rattle.hoist_base.proofs.NumberLemmas.{row_below, number_of_move}
 use Rattle.line_model.specs.declared.motion.Motion.{Motion}
 use Rattle.line_model.specs.Motion.{duration, place, motion_by}
 use Rattle.line_model.specs.Timetable.{Timetable, motion}
@@ -12,13 +13,9 @@ use Rattle.path_envelope.specs.Slots.{FixesSlot, held, IsWritten, IsDouble, IsTa
 use Rattle.path_envelope.proofs.FinishLemmas.{two_positions}
 
 -- the move with a number
-pub numbered : (l : LineData) (n moves : ℕ) → moves ≡ last_stage l → n < move_count l → 0 < moves → IsMove l (n / moves) (n % moves) × (move_number l (n / moves) (n % moves) ≡ n)
-numbered l n moves e lt pos =
-    let a : n / moves < l.degree = div_below n moves l.degree pos (omega (arith, lt, ap (λ m. l.degree * m) e)) in
-    let b : n % moves < moves = mod_below n moves pos in
-    let d = div-add-mod' n moves in
-    let f : n / moves * moves ≡ n / moves * last_stage l = ap (λ m. n / moves * m) e in
-    ((a, omega (arith, b, e)), omega (arith, d, f))
+pub numbered : (l : LineData) (n : ℕ) → n < move_count l → 0 < last_stage l
+    → IsMove l (n / last_stage l) (n % last_stage l) × (move_number l (n / last_stage l) (n % last_stage l) ≡ n)
+numbered l n lt some = ((row_below n l.degree (last_stage l) some lt, omega (arith, mod_below n (last_stage l) some)), number_of_move l n)
 
 -- two moves with one number are one
 pub same_move : (l : LineData) (c k c' k' : ℕ) → IsMove l c k → IsMove l c' k' → move_number l c k ≡ move_number l c' k' → (c ≡ c') × (k ≡ k')
@@ -82,10 +79,10 @@ record IsNumbered (l : LineData) (route starts hoists : List ℕ) (period h n c 
   hoist : get_or hoists n 0 ≡ (duties l route period starts hoists).hoist c k
   motion_is : m ≡ motion l (duties l route period starts hoists) c k
 
-is_numbered : (l : LineData) (route starts hoists : List ℕ) (period h n moves : ℕ) (m : Motion) → moves ≡ last_stage l → n < l.degree * moves → 0 < moves
-    → m ≡ motion_by l (route_tank l route (n / moves)) (n % moves) → IsNumbered l route starts hoists period h n (n / moves) (n % moves) m
-is_numbered l route starts hoists period h n moves m e lt pos is =
-    let r = numbered l n moves e (omega (arith, lt, ap (λ j. l.degree * j) e)) pos in
+is_numbered : (l : LineData) (route starts hoists : List ℕ) (period h n : ℕ) (m : Motion) → n < move_count l → 0 < last_stage l
+    → m ≡ motion_by l (route_tank l route (n / last_stage l)) (n % last_stage l) → IsNumbered l route starts hoists period h n (n / last_stage l) (n % last_stage l) m
+is_numbered l route starts hoists period h n m lt some is =
+    let r = numbered l n lt some in
     record {
       move = r.0;
       number = r.1;
@@ -94,32 +91,32 @@ is_numbered l route starts hoists period h n moves m e lt pos is =
       motion_is = is;
     }
 
-pub hoist_more : (l : LineData) (route starts hoists : List ℕ) (period h n moves : ℕ) (m : Motion) (old new : List (Option ℕ)) → moves ≡ last_stage l → n < l.degree * moves → 0 < moves
-    → m ≡ motion_by l (route_tank l route (n / moves)) (n % moves) → get_or hoists n 0 ≡ h
+pub hoist_more : (l : LineData) (route starts hoists : List ℕ) (period h n : ℕ) (m : Motion) (old new : List (Option ℕ)) → n < move_count l → 0 < last_stage l
+    → m ≡ motion_by l (route_tank l route (n / last_stage l)) (n % last_stage l) → get_or hoists n 0 ≡ h
     → IsTable l (duties l route period starts hoists) h n old → IsWritten m (get_or starts n 0) period (duration m + 1) old new → IsTable l (duties l route period starts hoists) h (n + 1) new
-hoist_more l route starts hoists period h n moves m old new e lt pos is own t w =
+hoist_more l route starts hoists period h n m old new lt some is own t w =
     let p = duties l route period starts hoists in
-    let c : ℕ = n / moves in
-    let k : ℕ = n % moves in
-    let r = is_numbered l route starts hoists period h n moves m e lt pos is in
+    let c : ℕ = n / last_stage l in
+    let k : ℕ = n % last_stage l in
+    let r = is_numbered l route starts hoists period h n m lt some is in
     let w1 : IsWritten m (p.start c k) period (duration m + 1) old new = subst (λ (s : ℕ). IsWritten m s period (duration m + 1) old new) r.start w in
     let w2 : IsWritten (motion l p c k) (p.start c k) period (duration (motion l p c k) + 1) old new = subst (λ (j : Motion). IsWritten j (p.start c k) period (duration j + 1) old new) r.motion_is w1 in
     table_more l p h n c k old new t r.move r.number (sym r.hoist ∙ own) w2
 
-pub hoist_skip : (l : LineData) (route starts hoists : List ℕ) (period h n moves : ℕ) (old : List (Option ℕ)) → moves ≡ last_stage l → n < l.degree * moves → 0 < moves → (get_or hoists n 0 ≡ h → ⊥)
+pub hoist_skip : (l : LineData) (route starts hoists : List ℕ) (period h n : ℕ) (old : List (Option ℕ)) → n < move_count l → 0 < last_stage l → (get_or hoists n 0 ≡ h → ⊥)
     → IsTable l (duties l route period starts hoists) h n old → IsTable l (duties l route period starts hoists) h (n + 1) old
-hoist_skip l route starts hoists period h n moves old e lt pos other t =
-    let r = is_numbered l route starts hoists period h n moves (motion_by l (route_tank l route (n / moves)) (n % moves)) e lt pos refl in
-    table_skip l (duties l route period starts hoists) h n (n / moves) (n % moves) old t r.move r.number (λ is. other (r.hoist ∙ is))
+hoist_skip l route starts hoists period h n old lt some other t =
+    let r = is_numbered l route starts hoists period h n (motion_by l (route_tank l route (n / last_stage l)) (n % last_stage l)) lt some refl in
+    table_skip l (duties l route period starts hoists) h n (n / last_stage l) (n % last_stage l) old t r.move r.number (λ is. other (r.hoist ∙ is))
 
-pub hoist_double : (l : LineData) (route starts hoists : List ℕ) (period h n moves : ℕ) (m : Motion) (old new : List (Option ℕ)) → moves ≡ last_stage l → n < l.degree * moves → 0 < moves
-    → m ≡ motion_by l (route_tank l route (n / moves)) (n % moves) → get_or hoists n 0 ≡ h
+pub hoist_double : (l : LineData) (route starts hoists : List ℕ) (period h n : ℕ) (m : Motion) (old new : List (Option ℕ)) → n < move_count l → 0 < last_stage l
+    → m ≡ motion_by l (route_tank l route (n / last_stage l)) (n % last_stage l) → get_or hoists n 0 ≡ h
     → IsTable l (duties l route period starts hoists) h n old → IsDouble m (get_or starts n 0) period old new → Agree l (duties l route period starts hoists) → ⊥
-hoist_double l route starts hoists period h n moves m old new e lt pos is own t w =
+hoist_double l route starts hoists period h n m old new lt some is own t w =
     let p = duties l route period starts hoists in
-    let c : ℕ = n / moves in
-    let k : ℕ = n % moves in
-    let r = is_numbered l route starts hoists period h n moves m e lt pos is in
+    let c : ℕ = n / last_stage l in
+    let k : ℕ = n % last_stage l in
+    let r = is_numbered l route starts hoists period h n m lt some is in
     let w1 : IsDouble m (p.start c k) period old new = subst (λ (s : ℕ). IsDouble m s period old new) r.start w in
     let w2 : IsDouble (motion l p c k) (p.start c k) period old new = subst (λ (j : Motion). IsDouble j (p.start c k) period old new) r.motion_is w1 in
     double_clashes l p h n c k old new t r.move (sym r.hoist ∙ own) w2
@@ -127,6 +124,6 @@ hoist_double l route starts hoists period h n moves m old new e lt pos is own t 
 -- the hoist of a numbered move is one of the line
 pub hoist_there : (l : LineData) (route starts hoists : List ℕ) (period n : ℕ) → n < move_count l → 1 ≤ last_stage l → HaveReach l (duties l route period starts hoists) → get_or hoists n 0 < l.hoists
 hoist_there l route starts hoists period n lt some have =
-    let r = numbered l n (last_stage l) refl lt some in
+    let r = numbered l n lt some in
     let e : get_or hoists (move_number l (n / last_stage l) (n % last_stage l)) 0 ≡ get_or hoists n 0 = ap (λ j. get_or hoists j 0) r.1 in
     omega (arith, e, have.hoist (n / last_stage l) (n % last_stage l) r.0)

@@ -8,24 +8,19 @@ ghost use Rattle.path_envelope.specs.FirstClash as turns;
 ghost use Rattle.path_envelope.specs.FirstClash.{Given, IsGiven, IsPartner, HasPartner, IsFirstPartner, IsFirstClash, IsNearestTick, NoneOfMove, NoneOfHoist, IsFirstOfMove, IsFirstOfHoist, IsNearestCopy, AreClash, IsSmall};
 ghost use Rattle.path_envelope.specs.Slots.{AreMoves};
 
+use crate::duties::Duties;
 use crate::point::Point;
-use hoist_base::{Line, MoveId, Route};
+use hoist_base::{Line, Route};
 use move_list::{Motion, duration, motion_of, place};
 
 /// The first fixed point of the starts as given that contradicts another or a copy of it, by hoist, then by move, then by
 /// tick; and the first one that it contradicts, in its nearest copy. None where no two fixed points contradict one another.
-pub(crate) fn first_clash(
-    line: &Line,
-    route: &Route,
-    period: u32,
-    starts: &[u64],
-    hoists: &[u32],
-) -> Option<(Point, Point)>
-    requires moves { AreMoves line.now route.now period starts.now hoists.now }
-    ensures { let p = duties line.now route.now period starts.now hoists.now in MatchOption result (Agree line.now p) (λ pair. IsFirstClash line.now p pair.0 pair.1) }
+pub(crate) fn first_clash(asked: Duties) -> Option<(Point, Point)>
+    requires moves { AreMoves asked.line.now asked.route.now asked.period asked.starts.now asked.hoists.now }
+    ensures { let p = duties asked.entry.line.now asked.entry.route.now asked.entry.period asked.entry.starts.now asked.entry.hoists.now in MatchOption result (Agree asked.entry.line.now p) (λ pair. IsFirstClash asked.entry.line.now p pair.0 pair.1) }
 {
-    for h in 0..line.hoists() {
-        if let Some(pair) = clash_of_hoist(line, route, period, starts, hoists, h) {
+    for h in 0..asked.line.hoists() {
+        if let Some(pair) = clash_of_hoist(asked, h) {
             return Some(pair);
         }
     }
@@ -33,20 +28,13 @@ pub(crate) fn first_clash(
 }
 
 // The same among the fixed points of one hoist.
-fn clash_of_hoist(
-    line: &Line,
-    route: &Route,
-    period: u32,
-    starts: &[u64],
-    hoists: &[u32],
-    h: u32,
-) -> Option<(Point, Point)>
-    requires moves { AreMoves line.now route.now period starts.now hoists.now }
-    ensures { let p = duties line.now route.now period starts.now hoists.now in MatchOption result (NoneOfHoist line.now p (HasPartner line.now p) h (move_count line.now)) (λ pair. (g : Given) × IsFirstOfHoist line.now p (HasPartner line.now p) h g × AreClash line.now p g pair) }
+fn clash_of_hoist(asked: Duties, h: u32) -> Option<(Point, Point)>
+    requires moves { AreMoves asked.line.now asked.route.now asked.period asked.starts.now asked.hoists.now }
+    ensures { let p = duties asked.entry.line.now asked.entry.route.now asked.entry.period asked.entry.starts.now asked.entry.hoists.now in MatchOption result (NoneOfHoist asked.entry.line.now p (HasPartner asked.entry.line.now p) h (move_count asked.entry.line.now)) (λ pair. (g : Given) × IsFirstOfHoist asked.entry.line.now p (HasPartner asked.entry.line.now p) h g × AreClash asked.entry.line.now p g pair) }
 {
-    for number in 0..line.degree() * (line.inner() + 1) {
-        if hoists[number as usize] == h {
-            if let Some(pair) = clash_of_move(line, route, period, starts, hoists, number) {
+    for number in 0..asked.line.move_count() {
+        if asked.hoists[number as usize] == h {
+            if let Some(pair) = clash_of_move(asked, number) {
                 return Some(pair);
             }
         }
@@ -55,27 +43,20 @@ fn clash_of_hoist(
 }
 
 // The same among the fixed points of one move.
-fn clash_of_move(
-    line: &Line,
-    route: &Route,
-    period: u32,
-    starts: &[u64],
-    hoists: &[u32],
-    number: u32,
-) -> Option<(Point, Point)>
-    requires moves { AreMoves line.now route.now period starts.now hoists.now }
-    requires number { number < move_count line.now }
-    ensures { let p = duties line.now route.now period starts.now hoists.now in MatchOption result (NoneOfMove line.now p (HasPartner line.now p) number) (λ pair. (g : Given) × IsFirstOfMove line.now p (HasPartner line.now p) number g × AreClash line.now p g pair) }
+fn clash_of_move(asked: Duties, number: u32) -> Option<(Point, Point)>
+    requires moves { AreMoves asked.line.now asked.route.now asked.period asked.starts.now asked.hoists.now }
+    requires number { number < move_count asked.line.now }
+    ensures { let p = duties asked.entry.line.now asked.entry.route.now asked.entry.period asked.entry.starts.now asked.entry.hoists.now in MatchOption result (NoneOfMove asked.entry.line.now p (HasPartner asked.entry.line.now p) number) (λ pair. (g : Given) × IsFirstOfMove asked.entry.line.now p (HasPartner asked.entry.line.now p) number g × AreClash asked.entry.line.now p g pair) }
 {
-    let motion = motion_by_number(line, route, number);
-    let start = starts[number as usize];
+    let motion = motion_by_number(asked.line, asked.route, number);
+    let start = asked.starts[number as usize];
     for u in 0..duration(motion) + 1 {
         let x = Point {
-            hoist: hoists[number as usize],
+            hoist: asked.hoists[number as usize],
             tick: (start + u64::from(u)) as i64,
             at: place(motion, u),
         };
-        if let Some(y) = first_partner(line, route, period, starts, hoists, x) {
+        if let Some(y) = first_partner(asked, x) {
             return Some((x, y));
         }
     }
@@ -83,20 +64,13 @@ fn clash_of_move(
 }
 
 // The first fixed point that contradicts a point, by itself or by a copy, in the copy that is nearest to it.
-fn first_partner(
-    line: &Line,
-    route: &Route,
-    period: u32,
-    starts: &[u64],
-    hoists: &[u32],
-    x: Point,
-) -> Option<Point>
-    requires moves { AreMoves line.now route.now period starts.now hoists.now }
-    requires small { IsSmall line.now x }
-    ensures { let p = duties line.now route.now period starts.now hoists.now in MatchOption result ((g : Given) → IsGiven line.now p g → IsPartner line.now p x g → ⊥) (λ y. IsFirstPartner line.now p x y) }
+fn first_partner(asked: Duties, x: Point) -> Option<Point>
+    requires moves { AreMoves asked.line.now asked.route.now asked.period asked.starts.now asked.hoists.now }
+    requires small { IsSmall asked.line.now x }
+    ensures { let p = duties asked.entry.line.now asked.entry.route.now asked.entry.period asked.entry.starts.now asked.entry.hoists.now in MatchOption result ((g : Given) → IsGiven asked.entry.line.now p g → IsPartner asked.entry.line.now p x g → ⊥) (λ y. IsFirstPartner asked.entry.line.now p x y) }
 {
-    for h in 0..line.hoists() {
-        if let Some(y) = partner_of_hoist(line, route, period, starts, hoists, h, x) {
+    for h in 0..asked.line.hoists() {
+        if let Some(y) = partner_of_hoist(asked, h, x) {
             return Some(y);
         }
     }
@@ -104,22 +78,14 @@ fn first_partner(
 }
 
 // The same among the fixed points of one hoist.
-fn partner_of_hoist(
-    line: &Line,
-    route: &Route,
-    period: u32,
-    starts: &[u64],
-    hoists: &[u32],
-    h: u32,
-    x: Point,
-) -> Option<Point>
-    requires moves { AreMoves line.now route.now period starts.now hoists.now }
-    requires small { IsSmall line.now x }
-    ensures { let p = duties line.now route.now period starts.now hoists.now in MatchOption result (NoneOfHoist line.now p (IsPartner line.now p x) h (move_count line.now)) (λ y. (g : Given) × IsFirstOfHoist line.now p (IsPartner line.now p x) h g × IsNearestCopy line.now p x g y) }
+fn partner_of_hoist(asked: Duties, h: u32, x: Point) -> Option<Point>
+    requires moves { AreMoves asked.line.now asked.route.now asked.period asked.starts.now asked.hoists.now }
+    requires small { IsSmall asked.line.now x }
+    ensures { let p = duties asked.entry.line.now asked.entry.route.now asked.entry.period asked.entry.starts.now asked.entry.hoists.now in MatchOption result (NoneOfHoist asked.entry.line.now p (IsPartner asked.entry.line.now p x) h (move_count asked.entry.line.now)) (λ y. (g : Given) × IsFirstOfHoist asked.entry.line.now p (IsPartner asked.entry.line.now p x) h g × IsNearestCopy asked.entry.line.now p x g y) }
 {
-    for number in 0..line.degree() * (line.inner() + 1) {
-        if hoists[number as usize] == h {
-            if let Some(y) = partner_of_move(line, route, period, starts, hoists, number, x) {
+    for number in 0..asked.line.move_count() {
+        if asked.hoists[number as usize] == h {
+            if let Some(y) = partner_of_move(asked, number, x) {
                 return Some(y);
             }
         }
@@ -128,29 +94,21 @@ fn partner_of_hoist(
 }
 
 // The same among the fixed points of one move.
-fn partner_of_move(
-    line: &Line,
-    route: &Route,
-    period: u32,
-    starts: &[u64],
-    hoists: &[u32],
-    number: u32,
-    x: Point,
-) -> Option<Point>
-    requires moves { AreMoves line.now route.now period starts.now hoists.now }
-    requires number { number < move_count line.now }
-    requires small { IsSmall line.now x }
-    ensures { let p = duties line.now route.now period starts.now hoists.now in MatchOption result (NoneOfMove line.now p (IsPartner line.now p x) number) (λ y. (g : Given) × IsFirstOfMove line.now p (IsPartner line.now p x) number g × IsNearestCopy line.now p x g y) }
+fn partner_of_move(asked: Duties, number: u32, x: Point) -> Option<Point>
+    requires moves { AreMoves asked.line.now asked.route.now asked.period asked.starts.now asked.hoists.now }
+    requires number { number < move_count asked.line.now }
+    requires small { IsSmall asked.line.now x }
+    ensures { let p = duties asked.entry.line.now asked.entry.route.now asked.entry.period asked.entry.starts.now asked.entry.hoists.now in MatchOption result (NoneOfMove asked.entry.line.now p (IsPartner asked.entry.line.now p x) number) (λ y. (g : Given) × IsFirstOfMove asked.entry.line.now p (IsPartner asked.entry.line.now p x) number g × IsNearestCopy asked.entry.line.now p x g y) }
 {
-    let motion = motion_by_number(line, route, number);
-    let start = starts[number as usize];
+    let motion = motion_by_number(asked.line, asked.route, number);
+    let start = asked.starts[number as usize];
     for u in 0..duration(motion) + 1 {
         let y = Point {
-            hoist: hoists[number as usize],
-            tick: nearest(x.tick, start + u64::from(u), period),
+            hoist: asked.hoists[number as usize],
+            tick: nearest(x.tick, start + u64::from(u), asked.period),
             at: place(motion, u),
         };
-        if contradicts(line, x, y) {
+        if contradicts(asked.line, x, y) {
             return Some(y);
         }
     }
@@ -165,12 +123,7 @@ fn motion_by_number(line: &Line, route: &Route, number: u32) -> Motion
     ensures motion { IsMotion result }
     ensures moves { 1 ≤ last_stage line.now }
 {
-    let moves = line.inner() + 1;
-    let m = MoveId {
-        carrier: number / moves,
-        step: number % moves,
-    };
-    motion_of(line, route, m)
+    motion_of(line, route, line.move_at(number))
 }
 
 // Whether no positions that keep to the track go through both points.

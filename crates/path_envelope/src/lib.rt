@@ -2,6 +2,7 @@
 #![tactic(auto)]
 
 mod clash;
+mod duties;
 mod point;
 mod rows;
 mod slots;

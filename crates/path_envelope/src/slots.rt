@@ -7,37 +7,24 @@ ghost use Rattle.line_model.specs.Motion as lasting;
 ghost use Rattle.path_envelope.specs.Duties.{duties, HaveReach, Agree};
 ghost use Rattle.path_envelope.specs.Slots.{IsWritten, IsDouble, IsTable};
 
-use hoist_base::{Line, MoveId, Route};
+use crate::duties::Duties;
 use move_list::{Motion, duration, motion_of, place};
 
 /// Writes where a hoist has to be at each tick of the period; false where two of its moves, or one, ask two positions of it
 /// at one tick.
-pub(crate) fn write_hoist(
-    line: &Line,
-    route: &Route,
-    period: u32,
-    starts: &[u64],
-    hoists: &[u32],
-    h: u32,
-    table: &mut [Option<u32>],
-) -> bool
-    requires route { IsRoute line.now route.now }
-    requires period { 1 ≤ period }
-    requires starts { (length starts.now ≡ move_count line.now) × ((i : ℕ) → get_or starts.now i 0 ≤ 1000000000) }
-    requires hoists { length hoists.now ≡ move_count line.now }
-    requires table { length table.old ≡ period }
-    ensures { let p = duties line.now route.now period starts.now hoists.now in MatchBool result (IsTable line.now p h (move_count line.now) table.new) (Agree line.now p → ⊥) }
+pub(crate) fn write_hoist(asked: Duties, h: u32, table: &mut [Option<u32>]) -> bool
+    requires route { IsRoute asked.line.now asked.route.now }
+    requires period { 1 ≤ asked.period }
+    requires starts { (length asked.starts.now ≡ move_count asked.line.now) × ((i : ℕ) → get_or asked.starts.now i 0 ≤ 1000000000) }
+    requires hoists { length asked.hoists.now ≡ move_count asked.line.now }
+    requires table { length table.old ≡ asked.period }
+    ensures { let p = duties asked.entry.line.now asked.entry.route.now asked.entry.period asked.entry.starts.now asked.entry.hoists.now in MatchBool result (IsTable asked.entry.line.now p h (move_count asked.entry.line.now) table.new) (Agree asked.entry.line.now p → ⊥) }
 {
     table.fill(None);
-    let moves = line.inner() + 1;
-    for number in 0..line.degree() * moves {
-        if hoists[number as usize] == h {
-            let m = MoveId {
-                carrier: number / moves,
-                step: number % moves,
-            };
-            let motion = motion_of(line, route, m);
-            if !write_motion(motion, starts[number as usize], period, table) {
+    for number in 0..asked.line.move_count() {
+        if asked.hoists[number as usize] == h {
+            let motion = motion_of(asked.line, asked.route, asked.line.move_at(number));
+            if !write_motion(motion, asked.starts[number as usize], asked.period, table) {
                 return false;
             }
         }

@@ -4,7 +4,7 @@ ghost use Rattle.hoist_base.specs.Routes.{IsRoute};
 ghost use Rattle.path_envelope.specs.Slots.{AreMoves};
 
 use crate::{Point, Traced, paths};
-use hoist_base::{Line, MoveId, Route};
+use hoist_base::{Line, Route};
 use move_list::{motion_of, reaches};
 use std::alloc::Global;
 use std::test::Fail;
@@ -15,21 +15,16 @@ fn fits(line: &Line, route: &Route, period: u32, starts: &[u64], hoists: &[u32])
     requires { IsRoute line.now route.now }
     ensures { OnTrue result (AreMoves line.now route.now period starts.now hoists.now) }
 {
-    let moves = line.inner() + 1;
-    let count = (line.degree() * moves) as usize;
+    let count = line.move_count() as usize;
     if period < 1 || period > 20_000 || starts.len() != count || hoists.len() != count {
         return false;
     }
-    for number in 0..line.degree() * moves {
-        let m = MoveId {
-            carrier: number / moves,
-            step: number % moves,
-        };
+    for number in 0..line.move_count() {
         let hoist = hoists[number as usize];
         if starts[number as usize] > 1_000_000_000 || hoist >= line.hoists() {
             return false;
         }
-        if !reaches(line, hoist, motion_of(line, route, m)) {
+        if !reaches(line, hoist, motion_of(line, route, line.move_at(number))) {
             return false;
         }
     }

@@ -8,6 +8,7 @@ ghost use Rattle.path_envelope.specs.Envelope.{IsTraced};
 ghost use Rattle.path_envelope.specs.Slots.{AreMoves, AreLayers, IsLastRow, held};
 
 use crate::clash::first_clash;
+use crate::duties::Duties;
 use crate::point::Traced;
 use crate::rows::sweep;
 use crate::slots::write_hoist;
@@ -34,15 +35,20 @@ pub fn paths(
     requires reach { HaveReach line.now (duties line.now route.now period starts.now hoists.now) }
     ensures traced { IfOk result (λ answer. IsTraced line.now (duties line.now route.now period starts.now hoists.now) answer) }
 {
+    let asked = Duties {
+        line,
+        route,
+        period,
+        starts,
+        hoists,
+    };
     let width = period as usize;
     let mut rows = Vec::with_capacity(alloc, line.hoists() as usize * width)?;
     let mut table = vec![in alloc; None; width]?;
     let mut row = vec![in alloc; 0; width]?;
     for h in 0..line.hoists() {
-        if !write_row(
-            line, route, period, starts, hoists, h, &rows, &mut table, &mut row,
-        ) {
-            return Ok(clashing(line, route, period, starts, hoists));
+        if !write_row(asked, h, &rows, &mut table, &mut row) {
+            return Ok(clashing(asked));
         }
         rows.extend_from_slice(&row)?;
     }
@@ -50,12 +56,12 @@ pub fn paths(
 }
 
 // The first two fixed points that contradict one another, where some do.
-fn clashing(line: &Line, route: &Route, period: u32, starts: &[u64], hoists: &[u32]) -> Traced
-    requires moves { AreMoves line.now route.now period starts.now hoists.now }
-    requires some { Agree line.now (duties line.now route.now period starts.now hoists.now) → ⊥ }
-    ensures { IsTraced line.now (duties line.now route.now period starts.now hoists.now) result }
+fn clashing(asked: Duties) -> Traced
+    requires moves { AreMoves asked.line.now asked.route.now asked.period asked.starts.now asked.hoists.now }
+    requires some { Agree asked.line.now (duties asked.line.now asked.route.now asked.period asked.starts.now asked.hoists.now) → ⊥ }
+    ensures { IsTraced asked.entry.line.now (duties asked.entry.line.now asked.entry.route.now asked.entry.period asked.entry.starts.now asked.entry.hoists.now) result }
 {
-    match first_clash(line, route, period, starts, hoists) {
+    match first_clash(asked) {
         Some((a, b)) => Traced::Clashing { a, b },
         None => unreachable!(),
     }
@@ -63,31 +69,27 @@ fn clashing(line: &Line, route: &Route, period: u32, starts: &[u64], hoists: &[u
 
 // Writes the lowest row of a hoist above those of the hoists below; false where two fixed points contradict one another.
 fn write_row(
-    line: &Line,
-    route: &Route,
-    period: u32,
-    starts: &[u64],
-    hoists: &[u32],
+    asked: Duties,
     h: u32,
     rows: &[u32],
     table: &mut [Option<u32>],
     row: &mut [u32],
 ) -> bool
-    requires moves { AreMoves line.now route.now period starts.now hoists.now }
-    requires valid { IsLine line.now }
-    requires hoist { h < line.now.hoists }
-    requires rows { AreLayers line.now (duties line.now route.now period starts.now hoists.now) h rows.now }
-    requires table { length table.old ≡ period }
-    requires row { length row.old ≡ period }
-    ensures layers { let p = duties line.now route.now period starts.now hoists.now in MatchBool result (AreLayers line.now p (h + 1) (rows.now ++ row.new)) (Agree line.now p → ⊥) }
-    ensures table { length table.new ≡ period }
-    ensures row { length row.new ≡ period }
+    requires moves { AreMoves asked.line.now asked.route.now asked.period asked.starts.now asked.hoists.now }
+    requires valid { IsLine asked.line.now }
+    requires hoist { h < asked.line.now.hoists }
+    requires rows { AreLayers asked.line.now (duties asked.line.now asked.route.now asked.period asked.starts.now asked.hoists.now) h rows.now }
+    requires table { length table.old ≡ asked.period }
+    requires row { length row.old ≡ asked.period }
+    ensures layers { let p = duties asked.entry.line.now asked.entry.route.now asked.entry.period asked.entry.starts.now asked.entry.hoists.now in MatchBool result (AreLayers asked.entry.line.now p (h + 1) (rows.now ++ row.new)) (Agree asked.entry.line.now p → ⊥) }
+    ensures table { length table.new ≡ asked.entry.period }
+    ensures row { length row.new ≡ asked.entry.period }
 {
-    if !write_hoist(line, route, period, starts, hoists, h, table) {
+    if !write_hoist(asked, h, table) {
         return false;
     }
-    let low = row_below(rows, period, h);
-    sweep(line, period, h, table, low, row);
+    let low = row_below(rows, asked.period, h);
+    sweep(asked.line, asked.period, h, table, low, row);
     goes_through(table, row)
 }
 

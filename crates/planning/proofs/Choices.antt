@@ -11,10 +11,10 @@ use Rattle.line_model.specs.Legal.{IsRouted}
 use Rattle.collision_pairs.specs.Clash.{clash_of}
 use Rattle.collision_pairs.proofs.MotionLemmas.{lasts}
 use Rattle.choice_tree.specs.declared.question.Decision.{Decision}
-use Rattle.period_constraints.specs.Tanks.{there_and_back, least_of, low, high, back, tank_below, motion_below}
-use Rattle.period_constraints.specs.Hoists.{ride_below, hoist_below, clash_between, clash_below}
-use Rattle.period_constraints.specs.Meets.{ride_of}
-use Rattle.period_constraints.proofs.Settled.{motions_are, motion_is, low_is, high_is, settled_ride}
+use Rattle.path_constraints.specs.Tanks.{there_and_back, least_of, low, high, back, tank_below, motion_below}
+use Rattle.path_constraints.specs.Hoists.{ride_below, hoist_below, clash_between, clash_below}
+use Rattle.path_constraints.specs.Meets.{ride_of}
+use Rattle.path_constraints.proofs.Settled.{motions_are, motion_is, low_is, high_is, settled_ride}
 
 -- the path leaves each visit its tank of the timetable, and each move its hoist
 pub record Settled (l : LineData) (path : List Decision) (p : Timetable) : Type 0 where
@@ -48,7 +48,8 @@ pub high_own : (l : LineData) (path : List Decision) (p : Timetable) (c k : ℕ)
 high_own l path p c k s move =
     high_is l path c k (p.tank c k) (p.tank c (k + 1)) (s.tank c k (visit_before l c k move)) (s.tank c (k + 1) (visit_after l c k move))
 
-pub back_own : (l : LineData) (path : List Decision) (p : Timetable) (c k : ℕ) → Settled l path p → IsMove l c k → back l path c k ≡ there_and_back (motion l p c k)
+pub back_own : (l : LineData) (path : List Decision) (p : Timetable) (c k : ℕ) → Settled l path p → IsMove l c k
+    → back l path c k ≡ there_and_back (motion l p c k)
 back_own l path p c k s move =
     ap (λ (ms : List Motion). least_of (map there_and_back ms))
     (motions_are l path c k (p.tank c k) (p.tank c (k + 1)) (s.tank c k (visit_before l c k move)) (s.tank c (k + 1) (visit_after l c k move)))
@@ -62,16 +63,19 @@ with_part : {X : Type 0} (o : Option X) (f : X → ℕ) (h : ℕ) → option_map
 with_part None f h e = cc
 with_part (Some x) f h e = (x, refl, some_same (f x) h e)
 
-pub ride_own : (l : LineData) (path : List Decision) (p : Timetable) (c k : ℕ) → Settled l path p → IsMove l c k → ride_below l path c k ≡ Some (ride_of l p c k)
+pub ride_own : (l : LineData) (path : List Decision) (p : Timetable) (c k : ℕ) → Settled l path p → IsMove l c k
+    → ride_below l path c k ≡ Some (ride_of l p c k)
 ride_own l path p c k s move =
     let (r, is, rides) = with_part (ride_below l path c k) (λ x. x.hoist) (p.hoist c k) (s.hoist c k move) in
     let parts = settled_ride l path c k r is in
-    let own : motion_below l path c k ≡ Some (motion l p c k) = motion_is l path c k (p.tank c k) (p.tank c (k + 1)) (s.tank c k (visit_before l c k move)) (s.tank c (k + 1) (visit_after l c k move)) in
+    let own : motion_below l path c k ≡ Some (motion l p c k) =
+    motion_is l path c k (p.tank c k) (p.tank c (k + 1)) (s.tank c k (visit_before l c k move)) (s.tank c (k + 1) (visit_after l c k move)) in
     let same : r.motion ≡ motion l p c k = some_same r.motion (motion l p c k) (sym parts.motion ∙ own) in
     is ∙ ap (λ (x : Motion). Some (record r { motion = x })) same ∙ ap (λ (y : ℕ). Some (record (ride_of l p c k) { hoist = y })) rides
 
 pub clash_own : (l : LineData) (path : List Decision) (p : Timetable) (a b : MoveId) → Settled l path p → IsMove l a.carrier a.step → IsMove l b.carrier b.step
     → clash_below l path a b ≡ clash_of l (motion l p a.carrier a.step) (p.hoist a.carrier a.step) (motion l p b.carrier b.step) (p.hoist b.carrier b.step)
 clash_own l path p a b s move move' =
-    ap (λ o. option_and_then (λ x. option_and_then (λ y. clash_between l x y) (ride_below l path b.carrier b.step)) o) (ride_own l path p a.carrier a.step s move)
+    ap (λ o. option_and_then (λ x. option_and_then (λ y. clash_between l x y) (ride_below l path b.carrier b.step)) o)
+    (ride_own l path p a.carrier a.step s move)
     ∙ ap (λ o. option_and_then (λ y. clash_between l (ride_of l p a.carrier a.step) y) o) (ride_own l path p b.carrier b.step s move')

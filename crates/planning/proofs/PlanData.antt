@@ -1,14 +1,16 @@
 -- The lists of a plan: they are a timetable of the line, which is legal.
-use Rattle.std.proofs.Common.{⊎_elim, ◌⊎◌, inl, inr, ◌≡◌, ℕ, suc, ◌+◌, ◌*◌, ◌/◌, ◌%◌, ◌<◌, ◌≤◌, List, [], ◌∷◌, length, get_or, Bool, true, false, refl, sym, ◌∙◌, ap, subst, ℤ, pos, ◌+ℤ◌, ◌≤ℤ◌, arith, cond, Some, None}
+use Rattle.std.proofs.Common.{⊎_elim, ◌≡◌, ℕ, ◌+◌, ◌*◌, ◌%◌, ◌<◌, ◌≤◌, List, [], ◌∷◌, length, get_or, Bool, true, sym, ◌∙◌, ap, subst, ℤ, pos, ◌+ℤ◌, ◌≤ℤ◌, arith, Some, None}
 use Rattle.std.specs.Prelude.{Option, Contains, filter}
 use Rattle.std.proofs.lemmas.Bool.{cases_lt}
 use Rattle.std.proofs.lemmas.Int.{ints}
 use Rattle.std.proofs.lemmas.List.{get_or_past}
-use Rattle.std.proofs.lemmas.Nat.{div-add-mod', mod_below, div_below, mul-le}
-use Rattle.std.proofs.lemmas.Option.{slice_get_within, get_or_from_slice_get}
-use Rattle.hoist_base.specs.LineData.{LineData, last_stage, last_step, move_number, move_count, IsMove, Serves}
+use Rattle.std.proofs.lemmas.List.Elements.{All-filter, Contains-get_or, filter_passes}
+use Rattle.list_facts.proofs.Elements.{contains_first, contains_at}
+use Rattle.hoist_base.specs.declared.ids.MoveId.{MoveId}
+use Rattle.hoist_base.specs.LineData.{LineData, last_stage, last_step, move_number, move_at, IsMove, Serves}
 use Rattle.hoist_base.specs.Routes.{IsRoute, route_tank}
 use Rattle.hoist_base.specs.Valid.{IsLine}
+use Rattle.hoist_base.proofs.NumberLemmas.{move_there, move_below, number_of_move}
 use Rattle.line_model.specs.declared.motion.Motion.{Motion}
 use Rattle.line_model.specs.Motion.{duration, place, motion_between, ReachesMotion}
 use Rattle.line_model.specs.Timetable.{Timetable, position, motion}
@@ -17,11 +19,10 @@ use Rattle.timetable.specs.TimetableData.{TimetableData, timetable_of, last_tick
 use Rattle.choice_tree.specs.declared.question.Decision.{Decision}
 use Rattle.choice_tree.specs.Nodes.{numbers_from}
 use Rattle.choice_tree.proofs.NodeLemmas.{length-numbers_from, get_or-numbers_from}
-use Rattle.period_constraints.specs.Hoists.{reaches_motion, hoists_reaching, assigned_of, hoist_by}
-use Rattle.period_constraints.specs.Ticks.{tick_at}
-use Rattle.period_constraints.proofs.CoverListLemmas.{contains_first, contains_rest, contains_cases}
-use Rattle.period_constraints.proofs.RideLemmas.{reaches_is}
-use Rattle.period_constraints.proofs.Settled.{settled_ride}
+use Rattle.path_constraints.specs.Hoists.{reaches_motion, hoists_reaching, assigned_of, hoist_by}
+use Rattle.path_constraints.specs.Ticks.{tick_at}
+use Rattle.path_constraints.proofs.RideLemmas.{reaches_is}
+use Rattle.path_constraints.proofs.Settled.{settled_ride}
 use Rattle.node_expand.specs.declared.solved.Solved.{Solved}
 use Rattle.node_expand.specs.Plannable.{IsPlannable}
 use Rattle.path_envelope.specs.Duties.{duties, HaveReach, Agree}
@@ -36,22 +37,6 @@ use Rattle.planning.proofs.Agreement.{all_agree}
 use Rattle.planning.proofs.Holding.{Starts}
 use Rattle.planning.proofs.Legality.{Follows, is_legal}
 
--- ---- places in the lists
-
--- the move at a place in a list by move
-pub record MoveAt (l : LineData) (i : ℕ) : Type 0 where
-  pub carrier : ℕ
-  pub step : ℕ
-  pub move : IsMove l carrier step
-  pub is : move_number l carrier step ≡ i
-
-pub move_at : (l : LineData) (i : ℕ) → IsLine l → i < move_count l → MoveAt l i
-move_at l i line lt =
-    let n : ℕ = last_stage l in
-    let some : 0 < n = omega (arith, line.limits.stages.0) in
-    let below : i % n < n = mod_below i n some in
-    record { carrier = i / n; step = i % n; move = (div_below i n l.degree some lt, omega (arith, below)); is = omega (arith, div-add-mod' i n) }
-
 -- ---- what a solved path says of its moves, wherever they start
 
 pub timed : (l : LineData) (s : Solved) (x : IsPlannable l s) → Timed l x.path (tick_at s.ticks) s.period
@@ -60,18 +45,22 @@ timed l s x = record { constraints = x.constraints; orders = x.orders }
 pub settled : (l : LineData) (s : Solved) (starts : List ℕ) (x : IsPlannable l s) → Settled l x.path (duties l s.tanks s.period starts s.hoists)
 settled l s starts x = record { routed = x.route.serves; tank = x.settles.tank; hoist = x.settles.hoist }
 
-small_at : (l : LineData) (s : Solved) (i : ℕ) → IsLine l → IsPlannable l s → i < length s.ticks → (pos 0 ≤ℤ tick_at s.ticks i) × (tick_at s.ticks i ≤ℤ pos 1000000)
+small_at : (l : LineData) (s : Solved) (i : ℕ) → IsLine l → IsPlannable l s → i < length s.ticks
+    → (pos 0 ≤ℤ tick_at s.ticks i) × (tick_at s.ticks i ≤ℤ pos 1000000)
 small_at l s i line x lt =
-    let m = move_at l i line (omega (arith, lt, x.ticks)) in
-    subst (λ j. (pos 0 ≤ℤ tick_at s.ticks j) × (tick_at s.ticks j ≤ℤ pos 1000000)) m.is
-    (ticks_small l x.path (duties l s.tanks s.period [] s.hoists) (tick_at s.ticks) s.period m.carrier m.step line (settled l s [] x) (timed l s x) x.period.1 x.origin m.move)
+    let m : MoveId = move_at l i in
+    let move : IsMove l m.carrier m.step = move_there l i line (omega (arith, lt, x.ticks)) in
+    subst (λ j. (pos 0 ≤ℤ tick_at s.ticks j) × (tick_at s.ticks j ≤ℤ pos 1000000)) (number_of_move l i)
+    (ticks_small l x.path (duties l s.tanks s.period [] s.hoists) (tick_at s.ticks) s.period m.carrier m.step line (settled l s [] x)
+    (timed l s x) x.period.1 x.origin move)
 
 pub small_ticks : (l : LineData) (s : Solved) → IsLine l → IsPlannable l s → HasSmallTicks s.ticks
 small_ticks l s line x i lt = small_at l s i line x lt
 
 -- ---- starts
 
-pub start_low : (l : LineData) (s : Solved) (starts : List ℕ) (i : ℕ) → IsLine l → IsPlannable l s → AreStarts l.load s.ticks starts → get_or starts i 0 ≤ 1020000
+pub start_low : (l : LineData) (s : Solved) (starts : List ℕ) (i : ℕ) → IsLine l → IsPlannable l s → AreStarts l.load s.ticks starts
+    → get_or starts i 0 ≤ 1020000
 start_low l s starts i line x are =
     ⊎_elim
     (λ lt. low (get_or starts i 0) (tick_at s.ticks i) l.load (are.at i lt) (small_at l s i line x lt).1 line.limits.load)
@@ -82,38 +71,29 @@ start_low l s starts i line x are =
     low a t load e le le' = omega (arith, ints, e, le, le')
 
 there : (l : LineData) (s : Solved) (c k : ℕ) → IsPlannable l s → IsMove l c k → move_number l c k < length s.ticks
-there l s c k x move =
-    let below = mul_le_step c l.degree (last_stage l) move.0 in
-    omega (arith, below, move.1, x.ticks)
-  where
-    mul_le_step : (c d n : ℕ) → c < d → c * n + n ≤ d * n
-    mul_le_step c d n lt = let e = mul-le (suc c) n d n (omega (arith, lt)) (omega arith) in omega (arith, e)
+there l s c k x move = omega (arith, move_below l c k move, x.ticks)
 
-pub start_is : (l : LineData) (s : Solved) (starts : List ℕ) (c k : ℕ) → IsPlannable l s → AreStarts l.load s.ticks starts → IsMove l c k → pos (get_or starts (move_number l c k) 0) ≡ tick_at s.ticks (move_number l c k) +ℤ pos l.load
+pub start_is : (l : LineData) (s : Solved) (starts : List ℕ) (c k : ℕ) → IsPlannable l s → AreStarts l.load s.ticks starts → IsMove l c k
+    → pos (get_or starts (move_number l c k) 0) ≡ tick_at s.ticks (move_number l c k) +ℤ pos l.load
 start_is l s starts c k x are move = are.at (move_number l c k) (there l s c k x move)
 
 pub are_loaded : (l : LineData) (s : Solved) (starts : List ℕ) → IsLine l → IsPlannable l s → AreStarts l.load s.ticks starts → AreLoaded l starts
 are_loaded l s starts line x are c lt =
     let move : IsMove l c 0 = (lt, omega (arith, line.limits.stages.0)) in
-    loaded (get_or starts (move_number l c 0) 0) (tick_at s.ticks (move_number l c 0)) l.load (start_is l s starts c 0 x are move) (small_at l s (move_number l c 0) line x (there l s c 0 x move)).0
+    loaded (get_or starts (move_number l c 0) 0) (tick_at s.ticks (move_number l c 0)) l.load (start_is l s starts c 0 x are move)
+    (small_at l s (move_number l c 0) line x (there l s c 0 x move)).0
   where
     loaded : (a : ℕ) (t : ℤ) (load : ℕ) → pos a ≡ t +ℤ pos load → pos 0 ≤ℤ t → load ≤ a
     loaded a t load e le = omega (arith, ints, e, le)
 
 -- ---- hoists
 
-keeps_test : (b : Bool) (x y : ℕ) (xs : List ℕ) → Contains (cond b (x ∷ xs) xs) y → ((b ≡ true) × (x ≡ y)) ⊎ Contains xs y
-keeps_test true x y xs c = ⊎_elim (λ e. inl (refl, e)) (λ r. inr r) (contains_cases x y xs c)
-keeps_test false x y xs c = inr c
-
 -- what is left of a list passes the test and was in it
 left_over : (test : ℕ → Bool) (xs : List ℕ) (y : ℕ) → Contains (filter test xs) y → (test y ≡ true) × Contains xs y
-left_over test [] y c = absurd (omega (arith, c.1))
-left_over test (x ∷ xs) y c =
-    ⊎_elim
-    (λ (passes, e). (ap test (sym e) ∙ passes, subst (λ z. Contains (x ∷ xs) z) e (contains_first x xs)))
-    (λ r. let more = left_over test xs y r in (more.0, contains_rest x y xs more.1))
-    (keeps_test (test x) x y (filter test xs) c)
+left_over test xs y (k, lt, e) =
+    let there : Contains xs (get_or (filter test xs) k y) =
+    All-filter test (λ z. Contains xs z) xs (λ i d within. Contains-get_or xs i d within) k y lt in
+    (subst (λ z. test z ≡ true) e (filter_passes test xs k y lt), subst (λ z. Contains xs z) e there)
 
 below_count : (n h : ℕ) → Contains (numbers_from 0 n) h → h < n
 below_count n h (i, lt, e) = omega (arith, length-numbers_from 0 n, lt, e, get_or-numbers_from 0 n i h (omega (arith, length-numbers_from 0 n, lt)))
@@ -123,11 +103,10 @@ one_of_them : (hs : List ℕ) (o : Option ℕ) (h : ℕ) → hoist_by hs o ≡ S
 one_of_them [] o h e = cc
 one_of_them (x ∷ []) o h e = let same : x ≡ h = cc in subst (λ z. Contains (x ∷ []) z) same (contains_first x [])
 one_of_them (x ∷ y ∷ ys) None h e = cc
-one_of_them (x ∷ y ∷ ys) (Some n) h e =
-    let lt = slice_get_within (x ∷ y ∷ ys) n h e in
-    (n, lt, get_or_from_slice_get (x ∷ y ∷ ys) n h h e)
+one_of_them (x ∷ y ∷ ys) (Some n) h e = contains_at (x ∷ y ∷ ys) h n e
 
-pub reach_of : (l : LineData) (path : List Decision) (p : Timetable) (c k : ℕ) → Settled l path p → IsMove l c k → (p.hoist c k < l.hoists) × ReachesMotion l (p.hoist c k) (motion l p c k)
+pub reach_of : (l : LineData) (path : List Decision) (p : Timetable) (c k : ℕ) → Settled l path p → IsMove l c k
+    → (p.hoist c k < l.hoists) × ReachesMotion l (p.hoist c k) (motion l p c k)
 reach_of l path p c k s move =
     let ride = settled_ride l path c k _ (ride_own l path p c k s move) in
     let m = motion l p c k in
@@ -142,7 +121,8 @@ have_reach l s starts x =
     record { hoist = λ c k move. (reach_of l x.path p c k fixed move).0; reach = λ c k move. (reach_of l x.path p c k fixed move).1 }
 
 -- no two points that the plan fixes contradict one another
-pub they_agree : (l : LineData) (s : Solved) (starts : List ℕ) → IsLine l → IsPlannable l s → AreStarts l.load s.ticks starts → Agree l (duties l s.tanks s.period starts s.hoists)
+pub they_agree : (l : LineData) (s : Solved) (starts : List ℕ) → IsLine l → IsPlannable l s → AreStarts l.load s.ticks starts
+    → Agree l (duties l s.tanks s.period starts s.hoists)
 they_agree l s starts line x are =
     let p = duties l s.tanks s.period starts s.hoists in
     all_agree l p (start_apart l x.path p (tick_at s.ticks) line (settled l s starts x) (timed l s x) (λ c k move. start_is l s starts c k x are move))
@@ -172,13 +152,16 @@ pub record AreParts (l : LineData) (s : Solved) (d : TimetableData) : Type 0 whe
   pub tank : d.tank ≡ s.tanks
   pub path : AreLowest l (duties l s.tanks s.period d.start s.hoists) d.path
 
-own_tank : (l : LineData) (s : Solved) (d : TimetableData) (c k : ℕ) → IsLine l → d.steps ≡ last_stage l → d.tank ≡ s.tanks → (timetable_of d).tank c k ≡ route_tank l s.tanks c k
+own_tank : (l : LineData) (s : Solved) (d : TimetableData) (c k : ℕ) → IsLine l → d.steps ≡ last_stage l → d.tank ≡ s.tanks
+    → (timetable_of d).tank c k ≡ route_tank l s.tanks c k
 own_tank l s d c k line steps e = tank_at l d.tank c k d.steps line steps ∙ ap (λ (tanks : List ℕ). route_tank l tanks c k) e
 
-own_motion : (l : LineData) (s : Solved) (d : TimetableData) (c k : ℕ) → IsLine l → d.steps ≡ last_stage l → d.tank ≡ s.tanks → motion l (timetable_of d) c k ≡ motion l (duties l s.tanks s.period d.start s.hoists) c k
+own_motion : (l : LineData) (s : Solved) (d : TimetableData) (c k : ℕ) → IsLine l → d.steps ≡ last_stage l → d.tank ≡ s.tanks
+    → motion l (timetable_of d) c k ≡ motion l (duties l s.tanks s.period d.start s.hoists) c k
 own_motion l s d c k line steps e =
     let p = timetable_of d in
-    motion_is l k (p.tank c k) (p.tank c (k + 1)) (route_tank l s.tanks c k) (route_tank l s.tanks c (k + 1)) (own_tank l s d c k line steps e) (own_tank l s d c (k + 1) line steps e)
+    motion_is l k (p.tank c k) (p.tank c (k + 1)) (route_tank l s.tanks c k) (route_tank l s.tanks c (k + 1)) (own_tank l s d c k line steps e)
+    (own_tank l s d c (k + 1) line steps e)
 
 pub is_plan : (l : LineData) (s : Solved) (d : TimetableData) → IsLine l → IsPlannable l s → AreParts l s d → IsPlan l s d
 is_plan l s d line x parts =
@@ -191,7 +174,8 @@ is_plan l s d line x parts =
       start = λ c k move. ap (λ (a : ℕ). pos a) (move_is l d.start c k d.steps parts.steps) ∙ start_is l s d.start c k x parts.start move;
       put = λ c lt. parts.put.at c lt ∙ sym (move_is l d.start c 0 d.steps parts.steps);
       off = λ c lt.
-          let e : duration (motion l p c n) ≡ duration (motion l (duties l s.tanks s.period d.start s.hoists) c n) = ap duration (own_motion l s d c n line parts.steps parts.tank) in
+          let e : duration (motion l p c n) ≡ duration (motion l (duties l s.tanks s.period d.start s.hoists) c n) =
+          ap duration (own_motion l s d c n line parts.steps parts.tank) in
           omega (arith, parts.off.at c lt, move_is l d.start c n d.steps parts.steps, e);
       paths = parts.path;
     }
@@ -220,25 +204,36 @@ is_timetable l s d line x parts =
       period = (omega (arith, parts.period, x.period.0), omega (arith, parts.period, x.period.1));
       put_ticks = λ i. small_list d.put l.degree last_tick i parts.put.count (λ c lt. omega (arith, parts.put.at c lt, low (move_number l c 0)));
       off_ticks = λ i. small_list d.off l.degree last_tick i parts.off.count
-          (λ c lt. omega (arith, parts.off.at c lt, low (move_number l c n), lasts_little l q c n line fixed.routed (lt, omega (arith, line.limits.stages.0)), line.limits.unload));
+          (λ c lt. omega (
+            arith,
+            parts.off.at c lt,
+            low (move_number l c n),
+            lasts_little l q c n line fixed.routed (lt, omega (arith, line.limits.stages.0)),
+            line.limits.unload,
+          ));
       start_ticks = λ i. omega (arith, low i);
       hoists = λ i lt.
-          let m = move_at l i line (omega (arith, lt, ap (λ (hs : List ℕ). length hs) parts.hoist, x.hoists)) in
-          let there = (reach_of l x.path q m.carrier m.step fixed m.move).0 in
-          let e : get_or d.hoist i 0 ≡ get_or s.hoists (move_number l m.carrier m.step) 0 = ap (λ (hs : List ℕ). get_or hs i 0) parts.hoist ∙ ap (λ (j : ℕ). get_or s.hoists j 0) (sym m.is) in
+          let m : MoveId = move_at l i in
+          let move : IsMove l m.carrier m.step =
+          move_there l i line (omega (arith, lt, ap (λ (hs : List ℕ). length hs) parts.hoist, x.hoists)) in
+          let there = (reach_of l x.path q m.carrier m.step fixed move).0 in
+          let e : get_or d.hoist i 0 ≡ get_or s.hoists (move_number l m.carrier m.step) 0 =
+          ap (λ (hs : List ℕ). get_or hs i 0) parts.hoist ∙ ap (λ (j : ℕ). get_or s.hoists j 0) (sym (number_of_move l i)) in
           omega (arith, e, there);
     }
 
 -- ---- the plan is legal
 
-pub plan_is_legal : (l : LineData) (s : Solved) (d : TimetableData) → IsLine l → IsPlannable l s → d.steps ≡ last_stage l → IsPlan l s d → IsLegal l (timetable_of d)
+pub plan_is_legal : (l : LineData) (s : Solved) (d : TimetableData) → IsLine l → IsPlannable l s → d.steps ≡ last_stage l → IsPlan l s d
+    → IsLegal l (timetable_of d)
 plan_is_legal l s d line x steps plan =
     let p = timetable_of d in
     let q = duties l s.tanks s.period d.start s.hoists in
     let rows = on_paths q d.path in
     let fixed = settled l s d.start x in
     let tank : (c k : ℕ) → p.tank c k ≡ q.tank c k = λ c k. own_tank l s d c k line steps plan.tanks in
-    let hoist : (c k : ℕ) → p.hoist c k ≡ q.hoist c k = λ c k. move_is l d.hoist c k d.steps steps ∙ ap (λ (hs : List ℕ). get_or hs (move_number l c k) 0) plan.hoists in
+    let hoist : (c k : ℕ) → p.hoist c k ≡ q.hoist c k =
+    λ c k. move_is l d.hoist c k d.steps steps ∙ ap (λ (hs : List ℕ). get_or hs (move_number l c k) 0) plan.hoists in
     let start : (c k : ℕ) → p.start c k ≡ q.start c k = λ c k. move_is l d.start c k d.steps steps in
     let moves : (c k : ℕ) → motion l p c k ≡ motion l q c k = λ c k. own_motion l s d c k line steps plan.tanks in
     let at : (h t : ℕ) → position p h t ≡ position rows h t = λ h t. ap (λ (n : ℕ). get_or d.path (h * n + t % n) 0) plan.period in
@@ -261,7 +256,8 @@ plan_is_legal l s d line x steps plan =
       along = λ c k u move le.
           let lasts : duration (motion l p c k) ≡ duration (motion l q c k) = ap duration (moves c k) in
           let here : position p (p.hoist c k) (p.start c k + u) ≡ position rows (q.hoist c k) (q.start c k + u) =
-          at (p.hoist c k) (p.start c k + u) ∙ ap (λ (h : ℕ). position rows h (p.start c k + u)) (hoist c k) ∙ ap (λ (a : ℕ). position rows (q.hoist c k) (a + u)) (start c k) in
+          at (p.hoist c k) (p.start c k + u) ∙ ap (λ (h : ℕ). position rows h (p.start c k + u)) (hoist c k) ∙ ap
+          (λ (a : ℕ). position rows (q.hoist c k) (a + u)) (start c k) in
           here ∙ plan.paths.through c k u move (omega (arith, le, lasts)) ∙ ap (λ (m : Motion). place m u) (sym (moves c k));
     } in
     let clock : Timed l x.path (tick_at s.ticks) p.period = subst (λ n. Timed l x.path (tick_at s.ticks) n) (sym plan.period) (timed l s x) in

@@ -19,9 +19,9 @@ use Rattle.collision_pairs.proofs.MotionLemmas.{goes_slowly, at_start, at_end}
 use Rattle.collision_pairs.proofs.ClashLemmas.{has_no_holes}
 use Rattle.choice_tree.specs.declared.question.Question.TheVariants.{HoistOrder}
 use Rattle.choice_tree.specs.declared.question.Decision.{Decision}
-use Rattle.period_constraints.specs.Tanks.{there_and_back}
-use Rattle.period_constraints.specs.Hoists.{clash_below}
-use Rattle.period_constraints.specs.Questions.{IsBefore, offset_of}
+use Rattle.path_constraints.specs.Tanks.{there_and_back}
+use Rattle.path_constraints.specs.Hoists.{clash_below}
+use Rattle.path_constraints.specs.Questions.{IsBefore, offset_of}
 use Rattle.planning.proofs.Choices.{Settled, is_motion, clash_own}
 use Rattle.planning.proofs.Rows.{Timed, repeat_row}
 
@@ -38,7 +38,8 @@ pub record StartApart (l : LineData) (p : Timetable) : Type 0 where
 -- ---- from the orders of moves
 
 -- an offset that holds is one of the clash
-forbidden_fails : (o : Option Span) (Holds : ℤ → Type 0) (z : ℤ) → IsSpanOf o Holds → Holds z → IsSome o × IsSomeAnd o (λ s. (neg_ℤ s.before <ℤ z) × (z <ℤ s.after))
+forbidden_fails : (o : Option Span) (Holds : ℤ → Type 0) (z : ℤ) → IsSpanOf o Holds → Holds z
+    → IsSome o × IsSomeAnd o (λ s. (neg_ℤ s.before <ℤ z) × (z <ℤ s.after))
 forbidden_fails None Holds z span h = absurd (span z h)
 forbidden_fails (Some s) Holds z span h = (refl, (span z).0 h)
 
@@ -55,10 +56,14 @@ start_apart l path p ticks line s t starts = record {
       let h' = p.hoist c' k' in
       let z : ℤ = offset_of l ticks p.period a b q in
       let Holds : ℤ → Type 0 = λ o. IsForbidden l m h m' h' o in
-      let e : between p c k c' k' q ≡ z = same (p.start c k) (p.start c' k') (ticks (move_number l c k)) (ticks (move_number l c' k')) (q *ℤ pos p.period) l.load (starts c k move) (starts c' k' move') in
-      let span : IsSpanOf (clash_of l m h m' h') Holds = has_no_holes l m h m' h' (is_motion l p c k line s.routed move) (is_motion l p c' k' line s.routed move') in
+      let e : between p c k c' k' q ≡ z =
+      same (p.start c k) (p.start c' k') (ticks (move_number l c k)) (ticks (move_number l c' k')) (q *ℤ pos p.period) l.load (starts c k move)
+      (starts c' k' move') in
+      let span : IsSpanOf (clash_of l m h m' h') Holds =
+      has_no_holes l m h m' h' (is_motion l p c k line s.routed move) (is_motion l p c' k' line s.routed move') in
       let P : Option Span → Type 0 = λ o. IsSome o × IsSomeAnd o (λ x. (neg_ℤ x.before <ℤ z) × (z <ℤ x.after)) in
-      let found : P (clash_below l path a b) = subst P (sym (clash_own l path p a b s move move')) (forbidden_fails (clash_of l m h m' h') Holds z span (subst Holds e bad)) in
+      let found : P (clash_below l path a b) =
+      subst P (sym (clash_own l path p a b s move move')) (forbidden_fails (clash_of l m h m' h') Holds z span (subst Holds e bad)) in
       t.orders (HoistOrder a b q) tt (record { first = move; second = move'; before = before; clash = found.0 }) found.1;
 }
   where
@@ -113,6 +118,7 @@ slow_copy m u v period w le le' fits far =
     let b = goes_slowly m 0 v (omega arith) in
     slow (place m u) (place m v) m.from m.to u v (duration m) (place m 0) (place m (duration m)) period w (at_start m) (at_end m) a.0 a.1 b.0 b.1 fits far le
   where
-    slow : (x y from to u v d first last period w : ℕ) → first ≡ from → last ≡ to → last ≤ x + (d - u) → x ≤ last + (d - u) → y ≤ first + (v - 0) → first ≤ y + (v - 0)
+    slow : (x y from to u v d first last period w : ℕ) → first ≡ from → last ≡ to → last ≤ x + (d - u) → x ≤ last + (d - u) → y ≤ first + (v - 0)
+        → first ≤ y + (v - 0)
         → d + abs_diff to from ≤ period → period + v ≤ w + u → u ≤ d → abs_diff x y ≤ w
     slow x y from to u v d first last period w e f a a' b b' fits far le = omega (arith, e, f, a, a', b, b', fits, far, le)

@@ -12,12 +12,12 @@ use Rattle.choice_tree.specs.declared.question.Question.{Question}
 use Rattle.choice_tree.specs.declared.question.Decision.{Decision}
 use Rattle.choice_tree.specs.declared.constraint.Constraint.{Constraint}
 use Rattle.choice_tree.specs.declared.constraint.Constraint.TheVariants.{Min, Max, Entry, Visit, Repeat}
-use Rattle.period_constraints.specs.Tanks.{there_and_back, low, high, back}
-use Rattle.period_constraints.specs.Constraints.{IsConstraint, IsOrder, arc_of, entry_arc, visit_arc, Keeps}
-use Rattle.period_constraints.specs.Places.{IsUndecided}
-use Rattle.period_constraints.specs.Questions.{Stands, Fails}
-use Rattle.period_constraints.proofs.CoverTrackLemmas.{times_back}
-use Rattle.period_constraints.proofs.CoverHoldLemmas.{if_true, if_false}
+use Rattle.path_constraints.specs.Tanks.{there_and_back, low, high, back}
+use Rattle.path_constraints.specs.Constraints.{IsConstraint, IsOrder, arc_of, entry_arc, visit_arc, Keeps}
+use Rattle.path_constraints.specs.Places.{IsUndecided}
+use Rattle.path_constraints.specs.Questions.{Stands, Fails}
+use Rattle.path_constraints.proofs.CoverTrackLemmas.{times_back}
+use Rattle.path_constraints.proofs.CoverHoldLemmas.{if_true, if_false}
 use Rattle.planning.proofs.Choices.{Settled, low_own, high_own, back_own}
 
 -- the ticks keep every undecided constraint at the period, and leave no order open
@@ -43,12 +43,15 @@ at_before P k h = subst P (omega arith) h
 
 -- ---- windows
 
-pub least_row : (l : LineData) (path : List Decision) (p : Timetable) (ticks : ℕ → ℤ) (period c k : ℕ) → Settled l path p → Timed l path ticks period → IsMove l c (k + 1)
+pub least_row : (l : LineData) (path : List Decision) (p : Timetable) (ticks : ℕ → ℤ) (period c k : ℕ) → Settled l path p → Timed l path ticks period
+    → IsMove l c (k + 1)
     → (ticks (move_number l c k) +ℤ pos (duration (motion l p c k) + (stage l (k + 1)).min)) ≤ℤ ticks (move_number l c (k + 1))
 least_row l path p ticks period c k s t move =
     let is : IsConstraint l path (Min c (k + 1)) = (move.0, omega arith, omega (arith, move.1)) in
     let P : ℕ → Type 0 = λ j. (ticks (move_number l c j) +ℤ pos (low l path c j + (stage l (k + 1)).min)) ≤ℤ ticks (move_number l c (k + 1)) in
-    let h = in_period ticks period (move_number l c (k + 1 - 1)) (move_number l c (k + 1)) (pos (low l path c (k + 1 - 1) + (stage l (k + 1)).min)) (t.constraints (Min c (k + 1)) tt is) in
+    let h =
+    in_period ticks period (move_number l c (k + 1 - 1)) (move_number l c (k + 1)) (pos (low l path c (k + 1 - 1) + (stage l (k + 1)).min))
+    (t.constraints (Min c (k + 1)) tt is) in
     let Q : ℕ → Type 0 = λ d. (ticks (move_number l c k) +ℤ pos (d + (stage l (k + 1)).min)) ≤ℤ ticks (move_number l c (k + 1)) in
     subst Q (low_own l path p c k s (move.0, omega (arith, move.1))) (at_before P k h)
 
@@ -56,7 +59,8 @@ bounded : (o : Option ℕ) (a b : ℤ) (d : ℕ) → (IsSome o → (a +ℤ neg_�
 bounded None a b d h = tt
 bounded (Some m) a b d h = omega (arith, ints, h refl)
 
-pub greatest_row : (l : LineData) (path : List Decision) (p : Timetable) (ticks : ℕ → ℤ) (period c k : ℕ) → Settled l path p → Timed l path ticks period → IsMove l c (k + 1)
+pub greatest_row : (l : LineData) (path : List Decision) (p : Timetable) (ticks : ℕ → ℤ) (period c k : ℕ) → Settled l path p → Timed l path ticks period
+    → IsMove l c (k + 1)
     → IfSome (stage l (k + 1)).max (λ m. ticks (move_number l c (k + 1)) ≤ℤ (ticks (move_number l c k) +ℤ pos (duration (motion l p c k) + m)))
 greatest_row l path p ticks period c k s t move =
     bounded (stage l (k + 1)).max (ticks (move_number l c (k + 1))) (ticks (move_number l c k)) (duration (motion l p c k))
@@ -64,7 +68,9 @@ greatest_row l path p ticks period c k s t move =
     let is : IsConstraint l path (Max c (k + 1)) = (move.0, omega arith, omega (arith, move.1), some) in
     let most : ℕ = unwrap_or (stage l (k + 1)).max 0 in
     let P : ℕ → Type 0 = λ j. (ticks (move_number l c (k + 1)) +ℤ neg_ℤ (pos (high l path c j + most))) ≤ℤ ticks (move_number l c j) in
-    let h = in_period ticks period (move_number l c (k + 1)) (move_number l c (k + 1 - 1)) (neg_ℤ (pos (high l path c (k + 1 - 1) + most))) (t.constraints (Max c (k + 1)) tt is) in
+    let h =
+    in_period ticks period (move_number l c (k + 1)) (move_number l c (k + 1 - 1)) (neg_ℤ (pos (high l path c (k + 1 - 1) + most)))
+    (t.constraints (Max c (k + 1)) tt is) in
     let Q : ℕ → Type 0 = λ d. (ticks (move_number l c (k + 1)) +ℤ neg_ℤ (pos (d + most))) ≤ℤ ticks (move_number l c k) in
     subst Q (high_own l path p c k s (move.0, omega (arith, move.1))) (at_before P k h))
 
@@ -92,16 +98,20 @@ around_row l path ticks period c t last =
 
 -- ---- visits
 
-pub visit_row : (l : LineData) (path : List Decision) (p : Timetable) (ticks : ℕ → ℤ) (period c k : ℕ) → Settled l path p → Timed l path ticks period → IsMove l c (k + 1)
+pub visit_row : (l : LineData) (path : List Decision) (p : Timetable) (ticks : ℕ → ℤ) (period c k : ℕ) → Settled l path p → Timed l path ticks period
+    → IsMove l c (k + 1)
     → (ticks (move_number l c (k + 1)) +ℤ pos ((stage l (k + 1)).lift + (stage l (k + 1)).lower)) ≤ℤ (ticks (move_number l c k) +ℤ pos (duration (motion l p c k) + period))
 visit_row l path p ticks period c k s t move =
     let is : IsConstraint l path (Visit c (k + 1)) = (move.0, omega arith, omega (arith, move.1)) in
     let times : ℕ = (stage l (k + 1)).lift + (stage l (k + 1)).lower in
     let at_end : Arc = arc (move_number l c (last_step l)) (move_number l c (last_step l)) (pos ((stage l (k + 1)).lower + l.unload)) (negsuc 0) in
     let inner : Arc = arc (move_number l c (k + 1)) (move_number l c (k + 1 - 1)) (pos times -ℤ pos (high l path c (k + 1 - 1))) (negsuc 0) in
-    let e : visit_arc l path c (k + 1) ≡ inner = if_false (k + 1 == last_stage l) at_end inner (ne_eqb (k + 1) (last_stage l) (λ x. omega (arith, x, move.1))) in
+    let e : visit_arc l path c (k + 1) ≡ inner =
+    if_false (k + 1 == last_stage l) at_end inner (ne_eqb (k + 1) (last_stage l) (λ x. omega (arith, x, move.1))) in
     let K : Arc → Type 0 = λ a. Keeps ticks period a in
-    let h = in_next ticks period (move_number l c (k + 1)) (move_number l c (k + 1 - 1)) (pos times -ℤ pos (high l path c (k + 1 - 1))) (subst K e (t.constraints (Visit c (k + 1)) tt is)) in
+    let h =
+    in_next ticks period (move_number l c (k + 1)) (move_number l c (k + 1 - 1)) (pos times -ℤ pos (high l path c (k + 1 - 1)))
+    (subst K e (t.constraints (Visit c (k + 1)) tt is)) in
     let P : ℕ → Type 0 = λ j. (ticks (move_number l c (k + 1)) +ℤ (pos times -ℤ pos (high l path c j))) ≤ℤ (ticks (move_number l c j) +ℤ pos period) in
     let Q : ℕ → Type 0 = λ d. (ticks (move_number l c (k + 1)) +ℤ (pos times -ℤ pos d)) ≤ℤ (ticks (move_number l c k) +ℤ pos period) in
     cleared (ticks (move_number l c (k + 1))) (ticks (move_number l c k)) times (duration (motion l p c k)) period
@@ -110,14 +120,16 @@ visit_row l path p ticks period c k s t move =
     cleared : (a b : ℤ) (n d period : ℕ) → (a +ℤ (pos n -ℤ pos d)) ≤ℤ (b +ℤ pos period) → (a +ℤ pos n) ≤ℤ (b +ℤ pos (d + period))
     cleared a b n d period h = omega (arith, ints, h)
 
-pub last_row : (l : LineData) (path : List Decision) (ticks : ℕ → ℤ) (period : ℕ) → IsLine l → Timed l path ticks period → (stage l (last_stage l)).lower + l.unload ≤ period
+pub last_row : (l : LineData) (path : List Decision) (ticks : ℕ → ℤ) (period : ℕ) → IsLine l → Timed l path ticks period
+    → (stage l (last_stage l)).lower + l.unload ≤ period
 last_row l path ticks period line t =
     let n : ℕ = last_stage l in
     let is : IsConstraint l path (Visit 0 n) = (omega (arith, line.limits.degree.0), omega (arith, line.limits.stages.0), omega arith) in
     let w : ℤ = pos ((stage l n).lower + l.unload) in
     let i : ℕ = move_number l 0 (last_step l) in
     let at_end : Arc = arc i i w (negsuc 0) in
-    let inner : Arc = arc (move_number l 0 n) (move_number l 0 (n - 1)) (pos ((stage l n).lift + (stage l n).lower) -ℤ pos (high l path 0 (n - 1))) (negsuc 0) in
+    let inner : Arc =
+    arc (move_number l 0 n) (move_number l 0 (n - 1)) (pos ((stage l n).lift + (stage l n).lower) -ℤ pos (high l path 0 (n - 1))) (negsuc 0) in
     let e : visit_arc l path 0 n ≡ at_end = if_true (n == last_stage l) at_end inner (eq-eqb n (last_stage l) refl) in
     let K : Arc → Type 0 = λ a. Keeps ticks period a in
     within (ticks i) ((stage l n).lower + l.unload) period (in_next ticks period i i w (subst K e (t.constraints (Visit 0 n) tt is)))
@@ -127,7 +139,8 @@ last_row l path ticks period line t =
 
 -- ---- repeat
 
-pub repeat_row : (l : LineData) (path : List Decision) (p : Timetable) (ticks : ℕ → ℤ) (period c k : ℕ) → Settled l path p → Timed l path ticks period → IsMove l c k → there_and_back (motion l p c k) ≤ period
+pub repeat_row : (l : LineData) (path : List Decision) (p : Timetable) (ticks : ℕ → ℤ) (period c k : ℕ) → Settled l path p → Timed l path ticks period
+    → IsMove l c k → there_and_back (motion l p c k) ≤ period
 repeat_row l path p ticks period c k s t move =
     let is : IsConstraint l path (Repeat c k) = (move.0, omega (arith, move.1)) in
     let i : ℕ = move_number l c k in

@@ -3,7 +3,7 @@ use Rattle.std.specs.Prelude.{◌≡◌, ℕ, ◌+◌, ◌<◌, ◌≤◌, List,
 use Rattle.hoist_base.specs.LineData.{LineData, last_step, move_number}
 use Rattle.hoist_base.specs.Routes.{route_tank}
 use Rattle.line_model.specs.Motion.{duration, motion_by}
-use Rattle.period_constraints.specs.Ticks.{tick_at}
+use Rattle.path_constraints.specs.Ticks.{tick_at}
 
 -- ticks from 0 on, none of them late
 abbrev pub HasSmallTicks : List ℤ → Type 0

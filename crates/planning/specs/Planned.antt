@@ -4,7 +4,7 @@ use Rattle.hoist_base.specs.LineData.{LineData, last_step, move_number, IsMove}
 use Rattle.line_model.specs.Motion.{duration}
 use Rattle.line_model.specs.Timetable.{motion}
 use Rattle.timetable.specs.TimetableData.{TimetableData, timetable_of}
-use Rattle.period_constraints.specs.Ticks.{tick_at}
+use Rattle.path_constraints.specs.Ticks.{tick_at}
 use Rattle.node_expand.specs.declared.solved.Solved.{Solved}
 use Rattle.path_envelope.specs.Duties.{duties}
 use Rattle.path_envelope.specs.Envelope.{AreLowest}

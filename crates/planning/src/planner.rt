@@ -39,12 +39,10 @@ fn puts_of(alloc: Global, line: &Line, starts: &[u64]) -> Result<Vec<u64>, Alloc
     requires loaded { AreLoaded line.now starts.now }
     ensures { IfOk result (λ puts. ArePuts line.now starts.now puts.items) }
 {
-    let load = line.load() as u64;
-    let moves = line.inner() as usize + 1;
-    let carriers = line.degree() as usize;
-    let mut puts = vec![in alloc; 0; carriers]?;
-    for c in 0..carriers {
-        puts[c] = starts[c * moves] - load;
+    let mut puts = vec![in alloc; 0; line.degree() as usize]?;
+    for carrier in 0..line.degree() {
+        let first = line.move_number(MoveId { carrier, step: 0 });
+        puts[carrier as usize] = starts[first as usize] - line.load() as u64;
     }
     Ok(puts)
 }
@@ -62,12 +60,12 @@ fn offs_of(
     ensures { IfOk result (λ offs. AreOffs line.now route.now starts.now offs.items) }
 {
     let step = line.inner();
-    let moves = step as usize + 1;
     let mut offs = vec![in alloc; 0; line.degree() as usize]?;
     for carrier in 0..line.degree() {
-        let last = motion_of(line, route, MoveId { carrier, step });
-        let start = starts[carrier as usize * moves + step as usize];
-        offs[carrier as usize] = start + duration(last) as u64 + line.unload() as u64;
+        let last = MoveId { carrier, step };
+        let start = starts[line.move_number(last) as usize];
+        let end = start + duration(motion_of(line, route, last)) as u64;
+        offs[carrier as usize] = end + line.unload() as u64;
     }
     Ok(offs)
 }
@@ -119,8 +117,8 @@ fn parts_of(alloc: Global, line: &Line, solved: &Solved) -> Result<TimetablePart
 /// The timetable of a solved path, which is legal.
 ///
 /// Its period, tanks and hoists are those of the path. Its moves start at their ticks, moved by the load time, so that
-/// carrier 0 is put on at tick 0. Each carrier is put on and taken off without waiting, and the hoists keep as low as their
-/// moves let them.
+/// carrier 0 is put on at tick 0. Each carrier is put on and taken off without waiting, and the hoists keep as low as
+/// their moves let them.
 pub fn plan(alloc: Global, line: &Line, solved: &Solved) -> Result<Timetable, AllocError>
     requires { IsPlannable line.now solved.now }
     ensures plan { IfOk result (λ t. IsPlan line.now solved.now t) }

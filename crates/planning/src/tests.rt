@@ -1,12 +1,12 @@
 // The plans of worked lines.
 ghost use Rattle.std.specs.Prelude.{◌≤◌, List, length, IsTrue};
-ghost use Rattle.period_constraints.specs.Questions.{FitsPath, FitsDecision, child_count};
+ghost use Rattle.path_constraints.specs.Questions.{FitsPath, FitsDecision, child_count};
 
 use crate::plan;
 use choice_tree::{Decision, Question};
 use hoist_base::{Line, MoveId, VisitId};
 use node_expand::{Expanded, expand};
-use period_constraints::fits;
+use path_constraints::fits;
 use std::alloc::{AllocError, Global};
 use std::test::Fail;
 use timetable::Timetable;
@@ -62,8 +62,8 @@ fn plan_below(
     }
 }
 
-// The period, the put and the off of carrier 0, the tanks that it uses, and for each of its moves the start, the hoist and
-// the hoist's positions.
+// The period, the put and the off of carrier 0, the tanks that it uses, and for each of its moves the start, the hoist
+// and the hoist's positions.
 fn numbers(alloc: Global, t: &Timetable) -> Result<Vec<u64>, AllocError> {
     let mut numbers = Vec::new(alloc);
     numbers.push(t.period() as u64)?;

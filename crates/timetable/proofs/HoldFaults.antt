@@ -1,30 +1,16 @@
 -- The first fault of the rule on tanks.
 use Rattle.std.proofs.Common.{◌≡◌, ◌≢◌, ℕ, ◌+◌, ◌*◌, ◌/◌, ◌%◌, ◌<◌, inr, length, arith, refl, sym, subst, ⊎_elim, [], ◌∷◌}
 use Rattle.std.specs.Prelude.{ℤ, pos, Some, Option}
-use Rattle.std.proofs.lemmas.Nat.{mod_below}
 use Rattle.hoist_base.specs.LineData.{LineData, IsVisit}
 use Rattle.line_model.specs.Timetable.{Timetable}
 use Rattle.line_model.specs.Legal.{hold_begin, hold_end}
 use Rattle.timetable.specs.declared.fault.Fault.{Fault}
 use Rattle.timetable.specs.declared.fault.Fault.TheVariants.{Hold}
-use Rattle.timetable.specs.TimetableData.{TimetableData, FitsLine, IsTimetable}
 use Rattle.timetable.specs.Numbers.{NoneUnder, IsFirstPartner}
 use Rattle.timetable.specs.Stretch.{Meet, IsLeastShift}
 use Rattle.timetable.specs.Faults.{AreInOrder, AreTwo, HoldTwo, HasFault, IsFirstOf, IsLess, rule_of, values_of}
-use Rattle.timetable.proofs.Pairs.{none_at_all, row_below, by_pair, number_before_row}
+use Rattle.timetable.proofs.Pairs.{none_at_all, by_pair, number_before_row}
 use Rattle.timetable.proofs.CarryFaults.{least_like}
-
--- the number of stages
-pub stage_count : (l : LineData) (d : TimetableData) → FitsLine l d → IsTimetable d → d.steps + 1 ≡ length l.stages
-stage_count l d fits valid = omega (arith, fits.steps, valid.steps)
-
--- the visit of a number
-pub visit_of_number : (l : LineData) (d : TimetableData) (i : ℕ) → FitsLine l d → IsTimetable d → i < length d.put * (d.steps + 1) → IsVisit l (i / (d.steps + 1)) (i % (d.steps + 1))
-visit_of_number l d i fits valid lt =
-    let n = d.steps + 1 in
-    let below : i / n < length d.put = row_below n i (length d.put) lt in
-    let stage : i % n < n = mod_below i n (omega arith) in
-    (omega (arith, below, fits.put_count), omega (arith, stage, fits.steps, valid.steps))
 
 -- the ticks of two holds
 abbrev pub HoldsMeet : LineData → Timetable → ℕ → ℕ → ℕ → ℕ → ℤ → Type 0

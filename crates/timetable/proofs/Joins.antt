@@ -19,9 +19,40 @@ NoneBefore l p r = (g : Fault) → HasFault l p g → rule_of g < r → ⊥
 pub none_before_first : (l : LineData) (p : Timetable) → NoneBefore l p 0
 none_before_first l p g has lt = omega arith
 
-pub none_before_next : (l : LineData) (p : Timetable) (r : ℕ) → NoneBefore l p r → IsFirstOf r l p None → NoneBefore l p (r + 1)
+none_before_next : (l : LineData) (p : Timetable) (r : ℕ) → NoneBefore l p r → IsFirstOf r l p None → NoneBefore l p (r + 1)
 none_before_next l p r none here g has lt =
     ⊎_elim (λ less. none g has less) (λ ge. here g has (omega (arith, lt, ge))) (cases_lt (rule_of g) r)
+
+-- the first rules have no fault, one by one
+pub none_before_one : (l : LineData) (p : Timetable) → IsFirstOf 0 l p None → NoneBefore l p 1
+none_before_one l p a = none_before_next l p 0 (none_before_first l p) a
+
+pub none_before_two : (l : LineData) (p : Timetable) → IsFirstOf 0 l p None → IsFirstOf 1 l p None → NoneBefore l p 2
+none_before_two l p a b = none_before_next l p 1 (none_before_one l p a) b
+
+pub none_before_three : (l : LineData) (p : Timetable)
+    → IsFirstOf 0 l p None → IsFirstOf 1 l p None → IsFirstOf 2 l p None → NoneBefore l p 3
+none_before_three l p a b c = none_before_next l p 2 (none_before_two l p a b) c
+
+pub none_before_four : (l : LineData) (p : Timetable)
+    → IsFirstOf 0 l p None → IsFirstOf 1 l p None → IsFirstOf 2 l p None → IsFirstOf 3 l p None
+    → NoneBefore l p 4
+none_before_four l p a b c d = none_before_next l p 3 (none_before_three l p a b c) d
+
+pub none_before_five : (l : LineData) (p : Timetable)
+    → IsFirstOf 0 l p None → IsFirstOf 1 l p None → IsFirstOf 2 l p None → IsFirstOf 3 l p None → IsFirstOf 4 l p None
+    → NoneBefore l p 5
+none_before_five l p a b c d e = none_before_next l p 4 (none_before_four l p a b c d) e
+
+pub none_before_six : (l : LineData) (p : Timetable)
+    → IsFirstOf 0 l p None → IsFirstOf 1 l p None → IsFirstOf 2 l p None → IsFirstOf 3 l p None → IsFirstOf 4 l p None → IsFirstOf 5 l p None
+    → NoneBefore l p 6
+none_before_six l p a b c d e f = none_before_next l p 5 (none_before_five l p a b c d e) f
+
+pub none_before_seven : (l : LineData) (p : Timetable)
+    → IsFirstOf 0 l p None → IsFirstOf 1 l p None → IsFirstOf 2 l p None → IsFirstOf 3 l p None → IsFirstOf 4 l p None → IsFirstOf 5 l p None → IsFirstOf 6 l p None
+    → NoneBefore l p 7
+none_before_seven l p a b c d e f g = none_before_next l p 6 (none_before_six l p a b c d e f) g
 
 -- what the two clauses say of an answer
 abbrev pub IsAnswer : LineData → Timetable → Option Fault → Type 0

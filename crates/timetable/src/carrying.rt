@@ -1,6 +1,6 @@
 // Faults of the hoists that carry: off their motion, or with two carriers at once.
-ghost use Rattle.std.specs.Prelude.{◌≡◌, ◌≤◌, ◌+◌, ◌*◌};
-ghost use Rattle.hoist_base.specs.LineData.{IsMove};
+ghost use Rattle.std.specs.Prelude.{◌≡◌, ◌<◌, ◌≤◌, ◌+◌, IfSome};
+ghost use Rattle.hoist_base.specs.LineData.{IsMove, last_stage, move_count};
 ghost use Rattle.line_model.specs.Motion.{IsMotion};
 ghost use Rattle.line_model.specs.Motion as lasting;
 ghost use Rattle.line_model.specs.Timetable as model;
@@ -30,12 +30,8 @@ pub(crate) fn first_motion(line: &Line, t: &Timetable) -> Option<Fault>
     requires { FitsLine line.now t.now }
     ensures { IsFirstOf 3 line.now (timetable_of t.now) result }
 {
-    let moves = t.moves();
-    for number in 0..t.carriers() * moves {
-        let m = MoveId {
-            carrier: number / moves,
-            step: number % moves,
-        };
+    for number in 0..line.move_count() {
+        let m = line.move_at(number);
         if let Some(u) = first_astray(line, t, m) {
             let want = place(motion(line, t, m), u);
             let seen = t.position(t.hoist(m), t.start(m) + u as u64);
@@ -67,17 +63,10 @@ pub(crate) fn first_carry(line: &Line, t: &Timetable) -> Option<Fault>
     requires { FitsLine line.now t.now }
     ensures { IsFirstOf 4 line.now (timetable_of t.now) result }
 {
-    let moves = t.moves();
-    for number in 0..t.carriers() * moves {
-        let a = MoveId {
-            carrier: number / moves,
-            step: number % moves,
-        };
+    for number in 0..line.move_count() {
+        let a = line.move_at(number);
         if let Some((partner, shift)) = first_partner(line, t, a) {
-            let b = MoveId {
-                carrier: partner / moves,
-                step: partner % moves,
-            };
+            let b = line.move_at(partner);
             return Some(Fault::Carry { a, b, shift });
         }
     }
@@ -88,15 +77,11 @@ pub(crate) fn first_carry(line: &Line, t: &Timetable) -> Option<Fault>
 fn first_partner(line: &Line, t: &Timetable, a: MoveId) -> Option<(u32, i64)>
     requires fits { FitsLine line.now t.now }
     requires there { IsMove line.now a.carrier a.step }
-    ensures { IsFirstPartner t.now.steps (CarriesTwo line.now (timetable_of t.now) a.carrier a.step) result }
+    ensures first { IsFirstPartner (last_stage line.now) (CarriesTwo line.now (timetable_of t.now) a.carrier a.step) result }
+    ensures there { IfSome result (λ x. x.0 < move_count line.now) }
 {
-    let moves = t.moves();
-    for number in a.carrier * moves + a.step..t.carriers() * moves {
-        let b = MoveId {
-            carrier: number / moves,
-            step: number % moves,
-        };
-        if let Some(shift) = first_shift(line, t, a, b) {
+    for number in line.move_number(a)..line.move_count() {
+        if let Some(shift) = first_shift(line, t, a, line.move_at(number)) {
             return Some((number, shift));
         }
     }

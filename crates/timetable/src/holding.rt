@@ -1,6 +1,6 @@
 // Faults of the tanks: held by two visits at once.
-ghost use Rattle.std.specs.Prelude.{◌≡◌, ◌+◌};
-ghost use Rattle.hoist_base.specs.LineData.{IsVisit};
+ghost use Rattle.std.specs.Prelude.{◌≡◌, ◌<◌, IfSome, length};
+ghost use Rattle.hoist_base.specs.LineData.{IsVisit, visit_count};
 ghost use Rattle.timetable.specs.TimetableData.{timetable_of, FitsLine};
 ghost use Rattle.timetable.specs.Numbers.{IsFirstPartner};
 ghost use Rattle.timetable.specs.Stretch.{IsLeastShift};
@@ -16,17 +16,10 @@ pub(crate) fn first_hold(line: &Line, t: &Timetable) -> Option<Fault>
     requires { FitsLine line.now t.now }
     ensures { IsFirstOf 7 line.now (timetable_of t.now) result }
 {
-    let visits = t.moves() + 1;
-    for number in 0..t.carriers() * visits {
-        let a = VisitId {
-            carrier: number / visits,
-            stage: number % visits,
-        };
+    for number in 0..line.visit_count() {
+        let a = line.visit_at(number);
         if let Some((partner, shift)) = first_partner(line, t, a) {
-            let b = VisitId {
-                carrier: partner / visits,
-                stage: partner % visits,
-            };
+            let b = line.visit_at(partner);
             return Some(Fault::Hold { a, b, shift });
         }
     }
@@ -37,15 +30,11 @@ pub(crate) fn first_hold(line: &Line, t: &Timetable) -> Option<Fault>
 fn first_partner(line: &Line, t: &Timetable, a: VisitId) -> Option<(u32, i64)>
     requires fits { FitsLine line.now t.now }
     requires there { IsVisit line.now a.carrier a.stage }
-    ensures { IsFirstPartner (t.now.steps + 1) (HoldTwo line.now (timetable_of t.now) a.carrier a.stage) result }
+    ensures first { IsFirstPartner (length line.now.stages) (HoldTwo line.now (timetable_of t.now) a.carrier a.stage) result }
+    ensures there { IfSome result (λ x. x.0 < visit_count line.now) }
 {
-    let visits = t.moves() + 1;
-    for number in a.carrier * visits + a.stage..t.carriers() * visits {
-        let b = VisitId {
-            carrier: number / visits,
-            stage: number % visits,
-        };
-        if let Some(shift) = first_shift(line, t, a, b) {
+    for number in line.visit_number(a)..line.visit_count() {
+        if let Some(shift) = first_shift(line, t, a, line.visit_at(number)) {
             return Some((number, shift));
         }
     }

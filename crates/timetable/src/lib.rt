@@ -19,3 +19,5 @@ pub use fault::Fault;
 pub use legal::{first_fault, is_legal};
 pub use parts::TimetableParts;
 pub use timetable::Timetable;
+pub use visits::{arrival, departure};
+pub use windows::{dwell, least_dwell};

@@ -11,8 +11,9 @@ use crate::timetable::Timetable;
 use hoist_base::{Line, MoveId, VisitId};
 use move_list::duration;
 
-/// The tick at which a carrier begins to rest in its tank: it is put on, or has been set down.
-pub(crate) fn arrival(line: &Line, t: &Timetable, v: VisitId) -> u64
+/// The tick at which a carrier begins to rest in its tank of a visit: it is put on at the load station, and set down
+/// elsewhere. The line has the visit, and the timetable fits the line.
+pub fn arrival(line: &Line, t: &Timetable, v: VisitId) -> u64
     requires fits { FitsLine line.now t.now }
     requires there { IsVisit line.now v.carrier v.stage }
     ensures value { result ≡ faults.arrival line.now (timetable_of t.now) v.carrier v.stage }
@@ -28,8 +29,9 @@ pub(crate) fn arrival(line: &Line, t: &Timetable, v: VisitId) -> u64
     t.start(m) + duration(motion(line, t, m)) as u64
 }
 
-/// The tick at which it is lifted there, or taken off.
-pub(crate) fn departure(line: &Line, t: &Timetable, v: VisitId) -> u64
+/// The tick at which a carrier ends its rest in its tank of a visit: it is taken off at the unload station, and its lift
+/// starts elsewhere. The line has the visit, and the timetable fits the line.
+pub fn departure(line: &Line, t: &Timetable, v: VisitId) -> u64
     requires fits { FitsLine line.now t.now }
     requires there { IsVisit line.now v.carrier v.stage }
     ensures value { result ≡ faults.departure line.now (timetable_of t.now) v.carrier v.stage }

@@ -14,12 +14,8 @@ pub(crate) fn first_dwell(line: &Line, t: &Timetable) -> Option<Fault>
     requires { FitsLine line.now t.now }
     ensures { faults.IsFirstOf 5 line.now (timetable_of t.now) result }
 {
-    let visits = t.moves() + 1;
-    for number in 0..t.carriers() * visits {
-        let v = VisitId {
-            carrier: number / visits,
-            stage: number % visits,
-        };
+    for number in 0..line.visit_count() {
+        let v = line.visit_at(number);
         let ticks = dwell(line, t, v);
         if is_outside(line, v.stage, ticks) {
             return Some(Fault::Dwell { v, ticks });
@@ -28,8 +24,9 @@ pub(crate) fn first_dwell(line: &Line, t: &Timetable) -> Option<Fault>
     None
 }
 
-// The ticks that a carrier rests in its tank, below 0 where it would leave before it comes.
-fn dwell(line: &Line, t: &Timetable, v: VisitId) -> i64
+/// The ticks that a carrier rests in its tank, from its arrival to its departure; below 0 where it would leave before it
+/// comes. The line has the visit, and the timetable fits the line.
+pub fn dwell(line: &Line, t: &Timetable, v: VisitId) -> i64
     requires fits { FitsLine line.now t.now }
     requires there { IsVisit line.now v.carrier v.stage }
     ensures { result ≡ faults.dwell line.now (timetable_of t.now) v.carrier v.stage }
@@ -51,8 +48,9 @@ fn is_outside(line: &Line, k: u32, ticks: i64) -> bool
     }
 }
 
-// The least dwell at a stage, and at the stations.
-fn least_dwell(line: &Line, k: u32) -> u32
+/// The fewest ticks that a carrier has to rest at stage k of the line: the stage's own `min`, but at the load station the
+/// ticks that a load takes, and at the unload station those that an unload takes.
+pub fn least_dwell(line: &Line, k: u32) -> u32
     requires { IsStageOf line.now k }
     ensures { result ≡ faults.least_dwell line.now k }
 {

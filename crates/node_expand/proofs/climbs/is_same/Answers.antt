@@ -1,6 +1,6 @@
 use Rattle.std.proofs.Common.{◌≡◌, length, arith}
 use Rattle.std.proofs.lemmas.List.{ext_get_or}
-use Rattle.period_constraints.specs.Tanks.{no_decision}
+use Rattle.path_constraints.specs.Tanks.{no_decision}
 use Rattle.node_expand.proofs.climbs.is_same.Goals as goal
 
 pub returns : goal.returns

@@ -1,5 +1,5 @@
 use Rattle.std.proofs.Common.{◌≡◌, ℕ, ◌<◌, ◌≤◌, length, get_or}
-use Rattle.period_constraints.specs.Tanks.{no_decision}
+use Rattle.path_constraints.specs.Tanks.{no_decision}
 use Rattle.node_expand.proofs.climbs.is_same.Given as goal
 
 -- the decisions from here on are the same

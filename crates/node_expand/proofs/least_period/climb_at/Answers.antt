@@ -4,7 +4,7 @@ use Rattle.longest_path.specs.System.{SystemData, IsSystem}
 use Rattle.cycle_walk.specs.Closed.{WalkData}
 use Rattle.cycle_walk.specs.Climb.{Gives}
 use Rattle.cycle_walk.specs.declared.climbing.Climbed.TheVariants.{Floor}
-use Rattle.period_constraints.specs.Places.{system_below}
+use Rattle.path_constraints.specs.Places.{system_below}
 use Rattle.node_expand.proofs.ExpandLemmas.{names_there, some_names_there, names_are, some_names_are, shut_at, shut_shows, shut_few, floor_at, walk_is_there, floor_closed}
 use Rattle.node_expand.proofs.CapLemmas.{climbed_later}
 use Rattle.node_expand.proofs.LeastLemmas.{climb_is}
@@ -49,21 +49,24 @@ pub unreachable-requires : goal.unreachable-requires
 unreachable-requires c =
     let l = c.args.line.now in
     let path = c.args.path.now in
-    let h = floor_at l path c.args.cap _ _ _ _ c.requires.at.system c.in-Floor.is c.in_ok-low.ensures.least c.in_ok-low.ensures.refuted c.in_ok-low.ensures.closed in
-    walk_is_there l path c.args.cap _ _ c.inner-inner.ensures.valid h c.in_default.is
+    let h =
+    floor_at l path c.args.cap _ _ _ _ c.requires.at.system c.in-Floor.is c.in_ok-low.ensures.least c.in_ok-low.ensures.refuted c.in_ok-low.ensures.closed in
+    walk_is_there l path c.args.cap _ _ c.requires.valid h c.in_default.is
 
 pub proof_of-requires-in-Floor : goal.proof_of-requires-in-Floor
 proof_of-requires-in-Floor c =
     let l = c.args.line.now in
     let path = c.args.path.now in
-    let h = floor_at l path c.args.cap _ _ _ _ c.requires.at.system c.in-Floor.is c.in_ok-low.ensures.least c.in_ok-low.ensures.refuted c.in_ok-low.ensures.closed in
+    let h =
+    floor_at l path c.args.cap _ _ _ _ c.requires.at.system c.in-Floor.is c.in_ok-low.ensures.least c.in_ok-low.ensures.refuted c.in_ok-low.ensures.closed in
     names_there l path _ c.in-Some.walk c.requires.at.names (floor_closed l path c.args.cap _ _ c.in-Some.walk h c.in-Some.is)
 
 pub ticks_at-requires-clause-feasible : goal.ticks_at-requires-clause-feasible
 ticks_at-requires-clause-feasible c =
     let l = c.args.line.now in
     let path = c.args.path.now in
-    let h = floor_at l path c.args.cap _ _ _ _ c.requires.at.system c.in-Floor.is c.in_ok-low.ensures.least c.in_ok-low.ensures.refuted c.in_ok-low.ensures.closed in
+    let h =
+    floor_at l path c.args.cap _ _ _ _ c.requires.at.system c.in-Floor.is c.in_ok-low.ensures.least c.in_ok-low.ensures.refuted c.in_ok-low.ensures.closed in
     h.feasible
 
 pub returns-in_ok-ticks-in-Floor : goal.returns-in_ok-ticks-in-Floor
@@ -71,7 +74,8 @@ returns-in_ok-ticks-in-Floor c =
     let l = c.args.line.now in
     let path = c.args.path.now in
     let period = c.in-Floor.period in
-    let h = floor_at l path c.args.cap _ _ _ _ c.requires.at.system c.in-Floor.is c.in_ok-low.ensures.least c.in_ok-low.ensures.refuted c.in_ok-low.ensures.closed in
+    let h =
+    floor_at l path c.args.cap _ _ _ _ c.requires.at.system c.in-Floor.is c.in_ok-low.ensures.least c.in_ok-low.ensures.refuted c.in_ok-low.ensures.closed in
     let P : Option WalkData → Type 0 = λ o. (t : ℕ) → 1 ≤ t → t < period → Gives o t in
     let V : SystemData → Type 0 = λ s. IsSystem s in
     let valid : IsSystem (system_below l path) = subst V c.requires.at.system c.nodes-nodes.ensures.valid in

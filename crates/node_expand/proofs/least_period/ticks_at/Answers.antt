@@ -2,8 +2,8 @@ use Rattle.std.proofs.Common.{ℤ, List, arith, sym, subst, ap}
 use Rattle.longest_path.specs.System.{SystemData, IsReached}
 use Rattle.longest_path.specs.Answer.{IsLeastAnswer}
 use Rattle.longest_path.specs.declared.least_ticks.LeastTicks.{LeastTicks}
-use Rattle.period_constraints.specs.Places.{system_below}
-use Rattle.period_constraints.specs.Ticks.{AreTicks}
+use Rattle.path_constraints.specs.Places.{system_below}
+use Rattle.path_constraints.specs.Ticks.{AreTicks}
 use Rattle.node_expand.proofs.FloorLemmas.{all_reached, are_ticks}
 use Rattle.node_expand.proofs.least_period.ticks_at.Goals as goal
 
@@ -14,7 +14,7 @@ least_in-requires-clause-reached c i lt =
     let e = c.requires.at.system in
     let P : SystemData → Type 0 = λ s. IsReached s i in
     let nodes = ap (λ (s : SystemData). s.nodes) e in
-    subst P (sym e) (all_reached l path i c.inner-inner.ensures.valid (omega (arith, lt, nodes)))
+    subst P (sym e) (all_reached l path i c.requires.valid (omega (arith, lt, nodes)))
 
 pub unreachable-requires : goal.unreachable-requires
 unreachable-requires c =
@@ -32,4 +32,5 @@ returns-clause-ticks c =
     let Q : LeastTicks → Type 0 = λ x. IsLeastAnswer (system_below l path) c.args.period x in
     let least = subst Q c.in-Feasible.is (subst P c.requires.at.system c.in_ok-ticks.ensures.least) in
     let R : List ℤ → Type 0 = λ ts. AreTicks l ts in
-    subst R (sym c.from_vec.ensures) (are_ticks l path c.in-Feasible.ticks.items c.args.period c.inner-inner.ensures.valid least.solves c.requires.period.1 least.at_start least.count)
+    subst R (sym c.from_vec.ensures)
+    (are_ticks l path c.in-Feasible.ticks.items c.args.period c.requires.valid least.solves c.requires.period.1 least.at_start least.count)

@@ -1,6 +1,6 @@
 use Rattle.std.proofs.Common.{ℕ, ◌<◌}
 use Rattle.hoist_base.specs.LineData.{IsStep}
-use Rattle.period_constraints.specs.Tanks.{IsStuck}
+use Rattle.path_constraints.specs.Tanks.{IsStuck}
 use Rattle.node_expand.proofs.stuck.first_stuck.Given as goal
 
 -- none of the moves of the carriers so far is stuck

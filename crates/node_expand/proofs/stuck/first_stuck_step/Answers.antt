@@ -1,5 +1,5 @@
 use Rattle.std.proofs.Common.{arith}
-use Rattle.period_constraints.specs.Tanks.{IsStuck}
+use Rattle.path_constraints.specs.Tanks.{IsStuck}
 use Rattle.node_expand.proofs.NoneLemmas.{none_more}
 use Rattle.node_expand.proofs.stuck.first_stuck_step.Goals as goal
 

@@ -1,5 +1,5 @@
 use Rattle.std.proofs.Common.{ℕ, ◌<◌}
-use Rattle.period_constraints.specs.Tanks.{IsStuck}
+use Rattle.path_constraints.specs.Tanks.{IsStuck}
 use Rattle.node_expand.proofs.stuck.first_stuck_step.Given as goal
 
 -- none of the moves so far is stuck

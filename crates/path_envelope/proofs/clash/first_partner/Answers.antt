@@ -6,10 +6,10 @@ use Rattle.path_envelope.proofs.clash.first_partner.Goals as goal
 pub returns-in-Some : goal.returns-in-Some
 returns-in-Some c =
     let (g, first, near) = c.in-Some.ensures in
-    as_first_partner c.args.line.now _ c.args.x c.in-Some.y g (first_of_all c.args.line.now _ _ c.loop-h.h g c.loop-h.invariant first) near
+    as_first_partner c.args.asked.line.now _ c.args.x c.in-Some.y g (first_of_all c.args.asked.line.now _ _ c.loop-h.h g c.loop-h.invariant first) near
 
 pub loop-h-preserved : goal.loop-h-preserved
-loop-h-preserved c = none_of_more_hoists c.args.line.now _ _ c.loop-h.h c.loop-h.invariant c.in_default.ensures
+loop-h-preserved c = none_of_more_hoists c.args.asked.line.now _ _ c.loop-h.h c.loop-h.invariant c.in_default.ensures
 
 pub returns : goal.returns
-returns c = none_at_all c.args.line.now _ _ c.loop-h.h c.requires.moves.reach c.loop-h.invariant (omega arith)
+returns c = none_at_all c.args.asked.line.now _ _ c.loop-h.h c.requires.moves.reach c.loop-h.invariant (omega arith)

@@ -6,7 +6,7 @@ pub returns-in-Some : goal.returns-in-Some
 returns-in-Some c =
     let (g, first, near) = c.in-Some.ensures in (
       g,
-      first_of_hoist c.args.line.now _ _ c.args.h c.loop-number.number g c.loop-number.invariant
-          (own_hoist c.args.line.now c.args.route.now c.args.starts.now c.args.hoists.now c.args.period c.loop-number.number c.args.h g first.number c.if-hoists-number.true) first,
+      first_of_hoist c.args.asked.line.now _ _ c.args.h c.loop-number.number g c.loop-number.invariant
+          (own_hoist c.args.asked.line.now c.args.asked.route.now c.args.asked.starts.now c.args.asked.hoists.now c.args.asked.period c.loop-number.number c.args.h g first.number c.if-asked-number.true) first,
       near,
     )

@@ -9,4 +9,5 @@ invariant-loop-carrier l =
     (length l.offs.items ≡ l.line.degree)
     × ((j : ℕ) → j < l.carrier
     → get_or l.offs.items j 0
-    ≡ get_or l.starts (move_number l.line j (last_step l.line)) 0 + duration (motion_by l.line (route_tank l.line l.route j) (last_step l.line)) + l.line.unload)
+    ≡ get_or l.starts (move_number l.line j (last_step l.line)) 0 + duration
+    (motion_by l.line (route_tank l.line l.route j) (last_step l.line)) + l.line.unload)

@@ -16,7 +16,9 @@ puts_of-requires-clause-loaded c =
     let l = c.args.line.now in
     let s = c.args.solved.now in
     let items = c.in_ok-start.start.items in
-    let starts : AreStarts l.load s.ticks items = subst (λ ticks. AreStarts l.load ticks items) c.as_slice.ensures (subst (λ load. AreStarts load c.as_slice.result.now items) c.load.ensures.value c.in_ok-start.ensures) in
+    let starts : AreStarts l.load s.ticks items =
+    subst (λ ticks. AreStarts l.load ticks items) c.as_slice.ensures
+    (subst (λ load. AreStarts load c.as_slice.result.now items) c.load.ensures.value c.in_ok-start.ensures) in
     rw c.as_slice-2.ensures.value (are_loaded l s items c.load.ensures.valid c.requires starts)
 
 pub offs_of-requires-clause-small : goal.offs_of-requires-clause-small
@@ -24,7 +26,9 @@ offs_of-requires-clause-small c =
     let l = c.args.line.now in
     let s = c.args.solved.now in
     let items = c.in_ok-start.start.items in
-    let starts : AreStarts l.load s.ticks items = subst (λ ticks. AreStarts l.load ticks items) c.as_slice.ensures (subst (λ load. AreStarts load c.as_slice.result.now items) c.load.ensures.value c.in_ok-start.ensures) in
+    let starts : AreStarts l.load s.ticks items =
+    subst (λ ticks. AreStarts l.load ticks items) c.as_slice.ensures
+    (subst (λ load. AreStarts load c.as_slice.result.now items) c.load.ensures.value c.in_ok-start.ensures) in
     rw c.as_slice-3.ensures.value (λ i. omega (arith, start_low l s items i c.load.ensures.valid c.requires starts))
 
 abbrev lists : (c : goal.In_ok-tank) → TimetableData
@@ -47,7 +51,9 @@ parts c =
     record {
       period = refl;
       steps = refl;
-      start = subst (λ ticks. AreStarts l.load ticks items) c.as_slice.ensures (subst (λ load. AreStarts load c.as_slice.result.now items) c.load.ensures.value c.in_ok-start.ensures);
+      start =
+          subst (λ ticks. AreStarts l.load ticks items) c.as_slice.ensures
+          (subst (λ load. AreStarts load c.as_slice.result.now items) c.load.ensures.value c.in_ok-start.ensures);
       put = subst (λ starts. ArePuts l starts c.in_ok-put.put.items) c.as_slice-2.ensures.value c.in_ok-put.ensures;
       off = subst (λ starts. AreOffs l s.tanks starts c.in_ok-off.off.items) c.as_slice-3.ensures.value c.in_ok-off.ensures;
       hoist = c.in_ok-hoist.ensures.items ∙ c.as_slice-5.ensures;

@@ -1,5 +1,5 @@
 use Rattle.std.proofs.Common.{◌≤◌, length}
-use Rattle.period_constraints.specs.Questions.{FitsPath}
+use Rattle.path_constraints.specs.Questions.{FitsPath}
 use Rattle.planning.proofs.tests.plan_below.Given as goal
 
 abbrev pub invariant-loop-i : goal.invariant-loop-i

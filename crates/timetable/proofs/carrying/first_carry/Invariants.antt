@@ -1,4 +1,5 @@
 use Rattle.std.proofs.Common.{ℕ, ℤ}
+use Rattle.hoist_base.specs.LineData.{last_stage}
 use Rattle.timetable.specs.TimetableData.{timetable_of}
 use Rattle.timetable.specs.Numbers.{NoneUnder}
 use Rattle.timetable.specs.Faults.{CarriesTwo}
@@ -6,5 +7,5 @@ use Rattle.timetable.proofs.carrying.first_carry.Given as goal
 
 abbrev pub invariant-loop-number : goal.invariant-loop-number
 invariant-loop-number l =
-    NoneUnder l.t.steps l.number
+    NoneUnder (last_stage l.line) l.number
     (λ c k. (c' : ℕ) × (k' : ℕ) × (s : ℤ) × CarriesTwo l.line (timetable_of l.t) c k c' k' s)

@@ -1,4 +1,5 @@
 use Rattle.std.proofs.Common.{ℕ}
+use Rattle.hoist_base.specs.LineData.{last_stage}
 use Rattle.timetable.specs.TimetableData.{timetable_of}
 use Rattle.timetable.specs.Numbers.{NoneUnder}
 use Rattle.timetable.specs.Faults.{IsAstray}
@@ -6,4 +7,4 @@ use Rattle.timetable.proofs.carrying.first_motion.Given as goal
 
 abbrev pub invariant-loop-number : goal.invariant-loop-number
 invariant-loop-number l =
-    NoneUnder l.t.steps l.number (λ c k. (v : ℕ) × IsAstray l.line (timetable_of l.t) c k v)
+    NoneUnder (last_stage l.line) l.number (λ c k. (v : ℕ) × IsAstray l.line (timetable_of l.t) c k v)

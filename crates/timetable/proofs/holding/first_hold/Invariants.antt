@@ -1,4 +1,4 @@
-use Rattle.std.proofs.Common.{ℕ, ◌+◌, ℤ}
+use Rattle.std.proofs.Common.{ℕ, ℤ, length}
 use Rattle.timetable.specs.TimetableData.{timetable_of}
 use Rattle.timetable.specs.Numbers.{NoneUnder}
 use Rattle.timetable.specs.Faults.{HoldTwo}
@@ -6,5 +6,5 @@ use Rattle.timetable.proofs.holding.first_hold.Given as goal
 
 abbrev pub invariant-loop-number : goal.invariant-loop-number
 invariant-loop-number l =
-    NoneUnder (l.t.steps + 1) l.number
+    NoneUnder (length l.line.stages) l.number
     (λ c k. (c' : ℕ) × (k' : ℕ) × (s : ℤ) × HoldTwo l.line (timetable_of l.t) c k c' k' s)

@@ -11,7 +11,8 @@ loop-i-init c =
     let path = c.args.path.now in
     let old = c.args.self.now.path.items in
     let new = c.go_back.new.self.path.items in
-    let shared : take c.shared-count.result old ≡ take c.shared-count.result path = ap (take c.shared-count.result) (sym c.as_slice.ensures.value) ∙ c.shared-count.ensures.same in
+    let shared : take c.shared-count.result old ≡ take c.shared-count.result path =
+    ap (take c.shared-count.result) (sym c.as_slice.ensures.value) ∙ c.shared-count.ensures.same in
     let is : new ≡ take (length new) path = prefix_there new old path c.shared-count.result c.go_back.ensures.prefix c.go_back.ensures.within shared in
     let n : length new ≡ c.len-i.result = omega (arith, c.len-i.ensures) in
     let at : new ≡ take c.len-i.result path = is ∙ ap (λ (n : ℕ). take n path) n in
@@ -20,11 +21,11 @@ loop-i-init c =
 
 pub returns-in_err-push-clause-kept : goal.returns-in_err-push-clause-kept
 returns-in_err-push-clause-kept c =
-    part_at c.args.line.now c.args.path.now c.loop-i.i _ c.requires.fits c.requires.short c.in_err-push.ensures.err
+    part_at c.args.line.now c.args.path.now c.loop-i.i _ c.requires.system.valid c.requires.fits c.requires.short c.in_err-push.ensures.err
 
 pub returns-clause-kept : goal.returns-clause-kept
 returns-clause-kept c =
-    part_at c.args.line.now c.args.path.now c.loop-i.i _ c.requires.fits c.requires.short c.loop-i.invariant.0
+    part_at c.args.line.now c.args.path.now c.loop-i.i _ c.requires.system.valid c.requires.fits c.requires.short c.loop-i.invariant.0
 
 pub returns-clause-there : goal.returns-clause-there
 returns-clause-there c =
