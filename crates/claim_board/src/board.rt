@@ -37,7 +37,8 @@ impl Model for Board {
 
     ghost view = { λ b. board_data b.table.shared.table_id b.table.shared.key };
 
-    ghost invariant = { λ b. (b.table.shared.table_id.words ≡ 2) × (b.table.shared.table_id.slots ≡ 0) × (b.n ≡ b.table.shared.key.n) };
+    ghost invariant = { λ b. (b.table.shared.table_id.words ≡ 2) × (b.table.shared.table_id.slots ≡ 0)
+        × (b.n ≡ b.table.shared.key.n) };
 }
 
 impl Board {

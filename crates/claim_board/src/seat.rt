@@ -20,5 +20,6 @@ impl Model for Seat {
     ghost view = { λ s. seat_data s.token.table_id s.token.me.0 };
 
     // It holds no slot and isn't spent.
-    ghost invariant = { λ s. (s.token.me.1 ≡ []) × (s.token.me.0.spent ≡ false) × (length s.token.me.0.list ≤ s.token.me.0.used) };
+    ghost invariant = { λ s. (s.token.me.1 ≡ []) × (s.token.me.0.spent ≡ false)
+        × (length s.token.me.0.list ≤ s.token.me.0.used) };
 }

@@ -1,5 +1,5 @@
 -- What the workers keep is the answers of the jobs, and their shares add up.
-use Rattle.std.proofs.Common.{◌≡◌, ℕ, zero, suc, ◌+◌, ◌-◌, ◌*◌, ◌<◌, ◌≤◌, ◌==◌, ◌⊎◌, ◌||◌, List, [], ◌∷◌, ◌++◌, length, map, get_or, replicate, fold, set, nat_lt, count_by, slice_get, cond, refl, sym, ap, ◌∙◌, subst, arith, Bool, true, false, inl, inr, ⊎_elim, zero-add, suc-mul, All, Option, Some, None, option_map, IsSome}
+use Rattle.std.proofs.Common.{◌≡◌, ℕ, zero, suc, ◌+◌, ◌-◌, ◌*◌, ◌<◌, ◌≤◌, ◌==◌, ◌⊎◌, ◌||◌, List, [], ◌∷◌, ◌++◌, length, map, get_or, replicate, fold, set, nat_lt, count_by, slice_get, cond, refl, sym, ap, ◌∙◌, subst, arith, Bool, true, false, inl, inr, ⊎_elim, zero-add, suc-mul, All, Option, Some, None, option_map, IsSome, Result, Ok, Err, IfOk, IsOkAnd}
 use Rattle.std.proofs.lemmas.List.{map-append, length-set, length-map, length-replicate}
 use Rattle.std.proofs.lemmas.List.Elements.{All-push, All-append}
 use Rattle.std.proofs.lemmas.List.Sums.{sum_by-cons}
@@ -7,7 +7,7 @@ use Rattle.std.proofs.lemmas.Option.{same_Some, none-some, slice_get-map, slice_
 use Rattle.claim_board.specs.Tidy.{times, once_below, EachOnceBelow}
 use Rattle.claim_board.specs.Seats.{BoardData, SeatData, HasAll, all_claims, joined_seat}
 use Rattle.claim_board.proofs.Counts.{times-snoc}
-use Rattle.worker_pool.specs.Pool.{Keeps, Done, placed}
+use Rattle.worker_pool.specs.Pool.{AnswersAt, Keeps, Done, placed}
 
 pub share-sum : (a b n : ℕ) → (a + b) * n ≡ a * n + b * n
 share-sum zero b n = let e : (0 + b) * n ≡ b * n = ap (λ k. k * n) (zero-add b) in omega (arith, e)
@@ -71,19 +71,40 @@ once_more n i xs below new once x = by_test (i == x) refl where
       let same : i ≡ x = grind (arith, e) in subst (λ k. times k (xs ++ i ∷ []) ≤ once_below n k) same (omega (arith, times-snoc i i xs, new, here, itself))
   by_test false e = let apart : number (i == x) ≡ 0 = ap number e in omega (arith, times-snoc x i xs, once x, apart)
 
+module _ {J A : Type 0} (Answers : J → A → Type 0) (jobs : List J) where
+  pub keeps_more : (list : List ℕ) (kept : List (ℕ × A)) (i : ℕ) (a : A) → AnswersAt Answers jobs i a
+      → Keeps Answers jobs list kept → Keeps Answers jobs (list ++ i ∷ []) (kept ++ (i, a) ∷ [])
+  keeps_more list kept i a here k =
+      (map-append (λ (p : ℕ × A). p.0) kept ((i, a) ∷ []) ∙ ap (λ l. l ++ i ∷ []) k.0, All-push (λ (p : ℕ × A). AnswersAt Answers jobs p.0 p.1) kept (i, a) k.1 here)
+
+  pub keeps_both : (xs ys : List ℕ) (ks ls : List (ℕ × A)) → Keeps Answers jobs xs ks → Keeps Answers jobs ys ls
+      → Keeps Answers jobs (xs ++ ys) (ks ++ ls)
+  keeps_both xs ys ks ls k l =
+      (map-append (λ (p : ℕ × A). p.0) ks ls ∙ (λ i. k.0 i ++ l.0 i), All-append (λ (p : ℕ × A). AnswersAt Answers jobs p.0 p.1) ks ls k.1 l.1)
+
+  pub done_both : (seat other : SeatData) (ks ls : List (ℕ × A)) → Done Answers jobs seat ks → Done Answers jobs other ls
+      → Done Answers jobs (joined_seat seat other) (ks ++ ls)
+  done_both seat other ks ls k l =
+      (ap (λ b. b || other.read_end) k.0, keeps_both seat.list other.list ks ls k.1 l.1)
+
+  -- the two parts of the workers, where neither had an error
+  pub joined_done : {V E : Type 0} (items : V → List (ℕ × A)) (seat other after : SeatData) (mine theirs all : Result V E)
+      → after ≡ joined_seat seat other
+      → IfOk all (λ ms. IsOkAnd mine (λ ks. IsOkAnd theirs (λ ls. items ms ≡ items ks ++ items ls)))
+      → IfOk mine (λ ks. Done Answers jobs seat (items ks)) → IfOk theirs (λ ls. Done Answers jobs other (items ls))
+      → IfOk all (λ ms. Done Answers jobs after (items ms))
+  joined_done items seat other after (Ok ks) (Ok ls) (Ok ms) joined is k l =
+      subst (Done Answers jobs after) (sym is)
+      (subst (λ s. Done Answers jobs s (items ks ++ items ls)) (sym joined) (done_both seat other (items ks) (items ls) k l))
+  joined_done items seat other after (Ok ks) (Err e) (Ok ms) joined is k l = absurd is
+  joined_done items seat other after (Err e) theirs (Ok ms) joined is k l = absurd is
+  joined_done items seat other after mine theirs (Err e) joined is k l = tt
+
+  pub numbers_below : (list : List ℕ) (kept : List (ℕ × A)) → Keeps Answers jobs list kept
+      → All (λ (p : ℕ × A). p.0 < length jobs) kept
+  numbers_below list kept k j d h = let (job, read, holds) = k.1 j d h in slice_get_within jobs _ job read
+
 module _ {A : Type 0} where
-  pub keeps_more : (answers : List A) (list : List ℕ) (kept : List (ℕ × A)) (i : ℕ) (a : A) → slice_get answers i ≡ Some a → Keeps answers list kept → Keeps answers (list ++ i ∷ []) (kept ++ (i, a) ∷ [])
-  keeps_more answers list kept i a e k =
-      (map-append (λ (p : ℕ × A). p.0) kept ((i, a) ∷ []) ∙ ap (λ l. l ++ i ∷ []) k.0, All-push (λ (p : ℕ × A). slice_get answers p.0 ≡ Some p.1) kept (i, a) k.1 e)
-
-  pub keeps_both : (answers : List A) (xs ys : List ℕ) (ks ls : List (ℕ × A)) → Keeps answers xs ks → Keeps answers ys ls → Keeps answers (xs ++ ys) (ks ++ ls)
-  keeps_both answers xs ys ks ls k l =
-      (map-append (λ (p : ℕ × A). p.0) ks ls ∙ (λ i. k.0 i ++ l.0 i), All-append (λ (p : ℕ × A). slice_get answers p.0 ≡ Some p.1) ks ls k.1 l.1)
-
-  pub done_both : (answers : List A) (seat other : SeatData) (ks ls : List (ℕ × A)) → Done answers seat ks → Done answers other ls → Done answers (joined_seat seat other) (ks ++ ls)
-  done_both answers seat other ks ls k l =
-      (ap (λ b. b || other.read_end) k.0, keeps_both answers seat.list other.list ks ls k.1 l.1)
-
   -- lists read by `slice_get`
   get_set_same : (l : List A) (i : ℕ) (a : A) → i < length l → slice_get (set l i a) i ≡ Some a
   get_set_same [] i a h = absurd (omega (arith, h))
@@ -97,98 +118,83 @@ module _ {A : Type 0} where
   get_set_other (x ∷ xs) (suc i) zero a apart = refl
   get_set_other (x ∷ xs) (suc i) (suc j) a apart = get_set_other xs i j a (λ e. apart (ap suc e))
 
-  same_lists : (xs ys : List A) → length xs ≡ length ys → ((i : ℕ) → i < length xs → slice_get xs i ≡ slice_get ys i) → xs ≡ ys
-  same_lists [] [] n each = refl
-  same_lists [] (y ∷ ys) n each = absurd (omega (arith, n))
-  same_lists (x ∷ xs) [] n each = absurd (omega (arith, n))
-  same_lists (x ∷ xs) (y ∷ ys) n each =
-      let first : x ≡ y = same_Some x y (each 0 (omega arith)) in
-      let rest = same_lists xs ys (omega (arith, n)) (λ i h. each (suc i) (omega (arith, h))) in
-      λ k. first k ∷ rest k
-
-module _ {A : Type 0} (answers : List A) where
+-- what holds of the answer at a number
+module _ {A : Type 0} (Holds : ℕ → A → Type 0) where
   abbrev write : List (Option A) → ℕ × A → List (Option A)
   write places p = set places p.0 (Some p.1)
 
-  pub length-written : (places : List (Option A)) (kept : List (ℕ × A)) → length (fold write places kept) ≡ length places
+  -- the place of a number has an answer, and it is right
+  abbrev pub IsRight : ℕ → Option (Option A) → Type 0
+  IsRight i place = (a : A) × (place ≡ Some (Some a)) × Holds i a
+
+  length-written : (places : List (Option A)) (kept : List (ℕ × A)) → length (fold write places kept) ≡ length places
   length-written places [] = refl
   length-written places (p ∷ ps) = length-written (write places p) ps ∙ length-set places p.0 (Some p.1)
 
+  length-placed : (n : ℕ) (kept : List (ℕ × A)) → length (placed n kept) ≡ n
+  length-placed n kept =
+      let nowhere : Option A = None in length-written (replicate n None) kept ∙ length-replicate n nowhere
+
   -- a place that is right, or whose number was kept, is right in the end
-  written_at : (kept : List (ℕ × A)) (places : List (Option A)) (i : ℕ) → All (λ (p : ℕ × A). slice_get answers p.0 ≡ Some p.1) kept → i < length places
-      → (slice_get places i ≡ Some (slice_get answers i)) ⊎ (0 < times i (map (λ (p : ℕ × A). p.0) kept)) → slice_get (fold write places kept) i ≡ Some (slice_get answers i)
+  written_at : (kept : List (ℕ × A)) (places : List (Option A)) (i : ℕ) → All (λ (p : ℕ × A). Holds p.0 p.1) kept → i < length places
+      → IsRight i (slice_get places i) ⊎ (0 < times i (map (λ (p : ℕ × A). p.0) kept)) → IsRight i (slice_get (fold write places kept) i)
   written_at [] places i right inside how = ⊎_elim (λ h. h) (λ h. absurd (omega (arith, h))) how
   written_at (p ∷ ps) places i right inside how = by_test (p.0 == i) refl (written_at ps (write places p) i (λ k d h. right (suc k) d (omega (arith, h))) (omega (arith, length-set places p.0 (Some p.1), inside))) where
-    this : slice_get answers p.0 ≡ Some p.1
+    this : Holds p.0 p.1
     this = right 0 p (omega arith)
 
-    by_test : (b : Bool) → (p.0 == i) ≡ b → ((slice_get (write places p) i ≡ Some (slice_get answers i)) ⊎ (0 < times i (map (λ (q : ℕ × A). q.0) ps)) → slice_get (fold write (write places p) ps) i ≡ Some (slice_get answers i))
-        → slice_get (fold write (write places p) ps) i ≡ Some (slice_get answers i)
+    by_test : (b : Bool) → (p.0 == i) ≡ b → (IsRight i (slice_get (write places p) i) ⊎ (0 < times i (map (λ (q : ℕ × A). q.0) ps)) → IsRight i (slice_get (fold write (write places p) ps) i))
+        → IsRight i (slice_get (fold write (write places p) ps) i)
     by_test true e later =
         let same : p.0 ≡ i = grind (arith, e) in
-        let now : slice_get (write places p) p.0 ≡ Some (slice_get answers p.0) = get_set_same places p.0 (Some p.1) (omega (arith, same, inside)) ∙ ap Some (sym this) in
-        later (inl (subst (λ k. slice_get (write places p) k ≡ Some (slice_get answers k)) same now))
+        let now : slice_get (write places p) p.0 ≡ Some (Some p.1) = get_set_same places p.0 (Some p.1) (omega (arith, same, inside)) in
+        later (inl (subst (λ k. IsRight k (slice_get (write places p) k)) same (p.1, now, this)))
     by_test false e later =
         let other : number (p.0 == i) ≡ 0 = ap number e in
         let apart : ¬ (i ≡ p.0) = λ same. grind (arith, e, same) in
-        ⊎_elim (λ h. later (inl (get_set_other places p.0 i (Some p.1) apart ∙ h)))
+        ⊎_elim (λ h. later (inl (h.0, get_set_other places p.0 i (Some p.1) apart ∙ h.1, h.2)))
         (λ h. later (inr (omega (arith, h, other, sum_by-cons (λ y. cond (y == i) 1 0) p.0 (map (λ (q : ℕ × A). q.0) ps))))) how
 
-  -- where each number below the number of answers was kept once, the places have the answers
-  pub placed_all : (list : List ℕ) (kept : List (ℕ × A)) → EachOnceBelow (length answers) list → Keeps answers list kept → placed (length answers) kept ≡ map Some answers
-  placed_all list kept each k =
-      let n : ℕ = length answers in
-      let size : length (placed n kept) ≡ n = length-written (replicate n None) kept ∙ length-replicate n None in
-      same_lists (placed n kept) (map Some answers) (size ∙ sym (length-map answers Some))
-      (λ i h.
+  -- where each number below n was kept once, each place is right
+  pub placed_right : (n : ℕ) (list : List ℕ) (kept : List (ℕ × A)) → EachOnceBelow n list → map (λ (p : ℕ × A). p.0) kept ≡ list
+      → All (λ (p : ℕ × A). Holds p.0 p.1) kept → (i : ℕ) → i < n → IsRight i (slice_get (placed n kept) i)
+  placed_right n list kept each same right i below =
       let nowhere : Option A = None in
-      let below : i < n = omega (arith, h, size) in
       let once : times i list ≡ 1 = each i ∙ is_once n i below in
-      let there : times i (map (λ (p : ℕ × A). p.0) kept) ≡ 1 = ap (times i) k.0 ∙ once in
-      written_at kept (replicate n None) i k.1 (omega (arith, below, length-replicate n nowhere)) (inr (omega (arith, there)))
-      ∙ sym (slice_get-map Some answers i ∙ as_some i below))
+      let there : times i (map (λ (p : ℕ × A). p.0) kept) ≡ 1 = ap (times i) same ∙ once in
+      written_at kept (replicate n None) i right (omega (arith, below, length-replicate n nowhere)) (inr (omega (arith, there)))
     where
       is_once : (bound x : ℕ) → x < bound → once_below bound x ≡ 1
       is_once bound x h = grind arith
 
-      some_there : (xs : List A) (i : ℕ) → i < length xs → (a : A) × (slice_get xs i ≡ Some a)
-      some_there [] i h = absurd (omega (arith, h))
-      some_there (x ∷ xs) zero h = (x, refl)
-      some_there (x ∷ xs) (suc i) h = some_there xs i (omega (arith, h))
+  pub all_placed : (n : ℕ) (kept : List (ℕ × A)) → ((i : ℕ) → i < n → IsRight i (slice_get (placed n kept) i))
+      → All (λ (o : Option A). IsSome o) (placed n kept)
+  all_placed n kept right k d h =
+      let (a, there, holds) = right k (omega (arith, h, length-placed n kept)) in
+      let is : get_or (placed n kept) k d ≡ Some a = same_Some (get_or (placed n kept) k d) (Some a) (sym (slice_get-get_or (placed n kept) k d h) ∙ there) in
+      subst (λ o. IsSome o) (sym is) refl
 
-      of_some : (o : Option A) → (a : A) × (o ≡ Some a) → option_map Some o ≡ Some o
-      of_some o (a, e) = ap (option_map Some) e ∙ ap Some (sym e)
-
-      as_some : (i : ℕ) → i < length answers → option_map Some (slice_get answers i) ≡ Some (slice_get answers i)
-      as_some i h = of_some (slice_get answers i) (some_there answers i h)
-
-  pub numbers_below : (list : List ℕ) (kept : List (ℕ × A)) → Keeps answers list kept → All (λ (p : ℕ × A). p.0 < length answers) kept
-  numbers_below list kept k j d h = slice_get_within answers _ _ (k.1 j d h)
-
-module _ {A : Type 0} where
-  pub all_some : (xs : List A) → All (λ (o : Option A). IsSome o) (map Some xs)
-  all_some [] k d h = absurd (omega (arith, h))
-  all_some (x ∷ xs) zero d h = refl
-  all_some (x ∷ xs) (suc k) d h = all_some xs k d (omega (arith, h))
-
-  pub same_somes : (xs ys : List A) → map Some xs ≡ map Some ys → xs ≡ ys
-  same_somes xs ys e =
-      same_lists xs ys (sym (length-map xs Some) ∙ ap length e ∙ length-map ys Some)
-      (λ i h. some_of (slice_get xs i) (slice_get ys i) (sym (slice_get-map Some xs i) ∙ ap (λ l. slice_get l i) e ∙ slice_get-map Some ys i))
-    where
-      some_of : (o p : Option A) → option_map Some o ≡ option_map Some p → o ≡ p
-      some_of None None e = refl
-      some_of None (Some y) e = absurd (none-some (Some y) e)
-      some_of (Some x) None e = absurd (none-some (Some x) (sym e))
-      some_of (Some x) (Some y) e = same_Some (Some x) (Some y) e
+  -- what stands in right places is right
+  pub outs_right : (n : ℕ) (kept : List (ℕ × A)) (outs : List A) → map Some outs ≡ placed n kept
+      → ((i : ℕ) → i < n → IsRight i (slice_get (placed n kept) i))
+      → (length outs ≡ n) × ((i : ℕ) (out : A) → slice_get outs i ≡ Some out → Holds i out)
+  outs_right n kept outs e right =
+      let size : length outs ≡ n = sym (length-map outs Some) ∙ ap length e ∙ length-placed n kept in (
+        size,
+        λ i out at.
+            let (a, there, holds) = right i (omega (arith, slice_get_within outs i out at, size)) in
+            let both : Some (Some out) ≡ Some (Some a) = sym (ap (option_map Some) at) ∙ sym (slice_get-map Some outs i) ∙ ap (λ l. slice_get l i) e ∙ there in
+            let same : out ≡ a = same_Some out a (same_Some (Some out) (Some a) both) in
+            subst (Holds i) (sym same) holds,
+      )
 
 -- a pair that was pushed
-pub kept_answer : {J A : Type 0} (f : J → A) (jobs : List J) (list : List ℕ) (old new : List (ℕ × A)) (i : ℕ) (job : J) (a : A) → i < length jobs → job ≡ get_or jobs i job → a ≡ f job
-    → new ≡ old ++ (i, a) ∷ [] → Keeps (map f jobs) list old → Keeps (map f jobs) (list ++ i ∷ []) new
-kept_answer {J} {A} f jobs list old new i job a inside is answer pushed k =
+pub kept_answer : {J A : Type 0} (Answers : J → A → Type 0) (jobs : List J) (list : List ℕ) (old new : List (ℕ × A)) (i : ℕ) (job : J) (a : A)
+    → i < length jobs → job ≡ get_or jobs i job → Answers job a → new ≡ old ++ (i, a) ∷ []
+    → Keeps Answers jobs list old → Keeps Answers jobs (list ++ i ∷ []) new
+kept_answer Answers jobs list old new i job a inside is answer pushed k =
     let read : slice_get jobs i ≡ Some job = slice_get-get_or jobs i job inside ∙ ap Some (sym is) in
-    let there : slice_get (map f jobs) i ≡ Some a = slice_get-map f jobs i ∙ ap (option_map f) read ∙ ap Some (sym answer) in
-    subst (Keeps (map f jobs) (list ++ i ∷ [])) (sym pushed) (keeps_more (map f jobs) list old i a there k)
+    subst (Keeps Answers jobs (list ++ i ∷ [])) (sym pushed) (keeps_more Answers jobs list old i a (job, read, answer) k)
 
 empty_list : {A : Type 0} (xs : List A) → length xs ≤ 0 → xs ≡ []
 empty_list [] h = refl
@@ -212,13 +218,19 @@ settled n before after whole both few used left all ended each =
     or_true true = refl
     or_true false = refl
 
--- a round that ended well: the lent seat has each number once, and each answer is at its place
-pub round_done : {A : Type 0} (answers : List A) (n workers share : ℕ) (board : BoardData) (lent before after whole : SeatData) (kept : List (ℕ × A)) → length answers ≡ n → board.n ≡ n → board.workers ≡ workers → share ≡ workers * (n + 1)
-    → lent.board ≡ board → lent.used ≡ 0 → lent.left ≡ workers * (n + 1) → before ≡ record lent { left = lent.left - share } → length before.list ≤ before.used → after ≡ joined_seat before whole
-    → whole.left + whole.used ≡ workers * (n + 1) → (after.read_end ≡ true → HasAll after → EachOnceBelow board.n after.list) → Done answers whole kept
-    → (placed n kept ≡ map Some answers) × EachOnceBelow n after.list
-round_done {A} answers n workers share board lent before after whole kept size same_n same_workers shares lent_board lent_used lent_left cut few both counts each done =
+-- a round that ended well: the lent seat has each number once, and at each place stands an answer of its job
+pub round_done : {J A : Type 0} (Answers : J → A → Type 0) (jobs : List J) (workers share : ℕ) (board : BoardData)
+    (lent before after whole : SeatData) (kept : List (ℕ × A))
+    → board.n ≡ length jobs → board.workers ≡ workers → share ≡ workers * (length jobs + 1)
+    → lent.board ≡ board → lent.used ≡ 0 → lent.left ≡ workers * (length jobs + 1)
+    → before ≡ record lent { left = lent.left - share } → length before.list ≤ before.used → after ≡ joined_seat before whole
+    → whole.left + whole.used ≡ workers * (length jobs + 1) → (after.read_end ≡ true → HasAll after → EachOnceBelow board.n after.list)
+    → Done Answers jobs whole kept
+    → ((i : ℕ) → i < length jobs → IsRight (AnswersAt Answers jobs) i (slice_get (placed (length jobs) kept) i))
+    × EachOnceBelow (length jobs) after.list
+round_done Answers jobs workers share board lent before after whole kept same_n same_workers shares lent_board lent_used lent_left cut few both counts each done =
+    let n : ℕ = length jobs in
     let claims : all_claims before.board ≡ workers * (n + 1) = ap (λ (s : SeatData). all_claims s.board) cut ∙ ap all_claims lent_board ∙ (λ k. same_workers k * (same_n k + 1)) in
     let left : before.left ≡ 0 = omega (arith, ap (λ (s : SeatData). s.left) cut, lent_left, shares) in
     let s = settled n before after whole both few (ap (λ (s : SeatData). s.used) cut ∙ lent_used) left (counts ∙ sym claims) done.0 (λ ended all x. each ended all x ∙ ap (λ k. once_below k x) same_n) in
-    (ap (λ k. placed k kept) (sym size) ∙ placed_all answers whole.list kept (subst (λ k. EachOnceBelow k whole.list) (sym size) s.0) done.1, s.1)
+    (placed_right (AnswersAt Answers jobs) n whole.list kept s.0 done.1.0 done.1.1, s.1)

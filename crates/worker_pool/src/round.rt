@@ -1,10 +1,10 @@
 //! A round: several workers on one list of jobs.
 
-ghost use Rattle.std.specs.Prelude.{◌≡◌, ◌+◌, ◌-◌, ◌*◌, ◌^◌, ◌<◌, ◌≤◌, true, List, length, map, All, IfOk, OnOk, OnErr};
+ghost use Rattle.std.specs.Prelude.{◌≡◌, ◌+◌, ◌-◌, ◌*◌, ◌^◌, ◌<◌, ◌≤◌, true, length, All, IfOk, OnOk, OnErr};
 ghost use Rattle.std.specs.Thread.{IsSync};
 ghost use Rattle.claim_board.specs.Tidy.{EachOnceBelow};
 ghost use Rattle.claim_board.specs.Seats.{HasAll, fresh_seat};
-ghost use Rattle.worker_pool.specs.Pool.{Done};
+ghost use Rattle.worker_pool.specs.Pool.{Done, AreAnswers};
 
 use crate::order::{answers, both, places};
 use crate::work::Work;
@@ -14,10 +14,9 @@ use outside::Gate;
 use std::alloc::{AllocError, Global};
 use std::thread::{Threads, join};
 
-/// The answers of the jobs, in the order of the jobs, by 1 to 64 workers. The board numbers the
-/// jobs for these workers, and the seat has all its claims and has used none. On `Ok` the seat
-/// drew each job's number exactly once. Whatever the answer, it has all claims again, left or
-/// used. With one worker no thread is started.
+/// The answers of the jobs, in the order of the jobs, by 1 to 64 workers. The board numbers the jobs for these workers,
+/// and the seat has all its claims and has used none. On `Ok` the seat drew each job's number exactly once. Whatever the
+/// answer, it has all claims again, left or used. With one worker no thread is started.
 pub fn run<W: Work, G: Gate, R: Threads + Sync>(
     rt: &R,
     alloc: Global,
@@ -34,7 +33,7 @@ pub fn run<W: Work, G: Gate, R: Threads + Sync>(
     requires board { (board.now.n ≡ length jobs.now) × (board.now.workers ≡ workers) }
     requires seat { (seat.old.board ≡ board.now) × (seat.old.used ≡ 0)
         × (seat.old.left ≡ workers * (length jobs.now + 1)) }
-    ensures answers { IfOk result (λ outs. outs.items ≡ map (λ job. W.answer_of work.now job) jobs.now) }
+    ensures answers { IfOk result (λ outs. AreAnswers (W.answers work.now) jobs.now outs.items) }
     ensures each { OnOk result (EachOnceBelow (length jobs.now) seat.new.list) }
     ensures ended { OnOk result (seat.new.read_end ≡ true) }
     ensures same { seat.new.board ≡ board.now }
@@ -69,7 +68,7 @@ fn share_out<W: Work, G: Gate, R: Threads + Sync>(
     ensures same { result.0.board ≡ board.now }
     ensures counts { result.0.left + result.0.used ≡ workers * (length jobs.now + 1) }
     ensures done { IfOk result.1 (λ kept.
-        Done (map (λ job. W.answer_of work.now job) jobs.now) result.0 kept.items) }
+        Done (W.answers work.now) jobs.now result.0 kept.items) }
 {
     if workers == 1 {
         let kept = work_alone(alloc, board, &mut seat, work, jobs, gate);
@@ -80,7 +79,7 @@ fn share_out<W: Work, G: Gate, R: Threads + Sync>(
     let Ok(other) = cut_off(alloc, board, &mut seat, jobs.len(), rest, half) else {
         return (seat, Err(AllocError));
     };
-    let ((seat, mine), (other, theirs)) = join(
+    let (mine, theirs) = join(
         rt,
         move || -> (Seat, Kept<W::Out>)
             requires { IsSync R.row × (1 ≤ rest) × (rest ≤ 64) × (length jobs.now < 2 ^ 32)
@@ -89,7 +88,7 @@ fn share_out<W: Work, G: Gate, R: Threads + Sync>(
             ensures { (result.0.board ≡ board.entry.now)
                 × (result.0.left + result.0.used ≡ rest * (length jobs.entry.now + 1))
                 × IfOk result.1 (λ kept.
-                Done (map (λ job. W.answer_of work.entry.now job) jobs.entry.now) result.0 kept.items) }
+                Done (W.answers work.entry.now) jobs.entry.now result.0 kept.items) }
         { share_out(rt, alloc, board, seat, work, jobs, rest, gate) },
         move || -> (Seat, Kept<W::Out>)
             requires { IsSync R.row × (1 ≤ half) × (half ≤ 64) × (length jobs.now < 2 ^ 32)
@@ -98,10 +97,10 @@ fn share_out<W: Work, G: Gate, R: Threads + Sync>(
             ensures { (result.0.board ≡ board.entry.now)
                 × (result.0.left + result.0.used ≡ half * (length jobs.entry.now + 1))
                 × IfOk result.1 (λ kept.
-                Done (map (λ job. W.answer_of work.entry.now job) jobs.entry.now) result.0 kept.items) }
+                Done (W.answers work.entry.now) jobs.entry.now result.0 kept.items) }
         { share_out(rt, alloc, board, other, work, jobs, half, gate) },
     );
-    joined(board, seat, other, mine, theirs)
+    joined(board, work, jobs, mine, theirs)
 }
 
 // Cuts the claims of `half` workers off a new seat that has those of `rest` workers too.
@@ -125,20 +124,23 @@ fn cut_off(
 }
 
 // Joins the seats of two parts of the workers, and what these kept.
-fn joined<T: Drop>(
+fn joined<W: Work>(
     board: &Board,
-    mut seat: Seat,
-    other: Seat,
-    mine: Kept<T>,
-    theirs: Kept<T>,
-) -> (Seat, Kept<T>)
-    requires of_board { (seat.board ≡ board.now) × (other.board ≡ board.now) }
+    work: &W,
+    jobs: &[W::Job],
+    mine: (Seat, Kept<W::Out>),
+    theirs: (Seat, Kept<W::Out>),
+) -> (Seat, Kept<W::Out>)
+    requires of_board { (mine.0.board ≡ board.now) × (theirs.0.board ≡ board.now) }
     ensures same { result.0.board ≡ board.now }
-    ensures counts { result.0.left + result.0.used ≡ (seat.left + seat.used) + (other.left + other.used) }
-    ensures done { (answers : List T) → IfOk mine (λ kept. Done answers seat kept.items)
-        → IfOk theirs (λ kept. Done answers other kept.items)
-        → IfOk result.1 (λ kept. Done answers result.0 kept.items) }
+    ensures counts { result.0.left + result.0.used
+        ≡ (mine.0.left + mine.0.used) + (theirs.0.left + theirs.0.used) }
+    ensures done { IfOk mine.1 (λ kept. Done (W.answers work.now) jobs.now mine.0 kept.items)
+        → IfOk theirs.1 (λ kept. Done (W.answers work.now) jobs.now theirs.0 kept.items)
+        → IfOk result.1 (λ kept. Done (W.answers work.now) jobs.now result.0 kept.items) }
 {
+    let (mut seat, kept) = mine;
+    let (other, more) = theirs;
     board.join(&mut seat, other);
-    (seat, both(mine, theirs))
+    (seat, both(kept, more))
 }

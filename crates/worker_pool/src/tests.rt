@@ -1,7 +1,7 @@
 //! Rounds by several numbers of workers: the order of the answers, two jobs at once, want of
 //! memory.
 
-ghost use Rattle.std.specs.Prelude.{◌^◌, ◌<◌, ◌≤◌, ◌+◌, ◌*◌, length};
+ghost use Rattle.std.specs.Prelude.{◌≡◌, ◌^◌, ◌<◌, ◌≤◌, ◌+◌, ◌*◌, length};
 
 use crate::{Work, laws, run};
 use claim_board::Board;
@@ -27,16 +27,30 @@ impl Work for Tripled {
 
     type Out = u64;
 
+    // How many jobs were answered in it.
+    type Room = u64;
+
     ghost takes = { λ _ _. Unit {0} };
 
-    ghost answer_of = { λ _ job. 3 * job + 1 };
+    ghost answers = { λ _ job answer. answer ≡ 3 * job + 1 };
 
-    fn answer(&self, _alloc: Global, job: &u32) -> Result<u64, AllocError> {
+    ghost serves = { λ _ _. Unit {0} };
+
+    fn room(&self, _alloc: Global) -> Result<u64, AllocError> {
+        Ok(0)
+    }
+
+    fn answer(&self, _alloc: Global, room: &mut u64, job: &u32) -> Result<u64, AllocError> {
         if *job == self.starved_at {
             return Err(AllocError);
         }
+        *room = room.wrapping_add(1);
         Ok(3 * u64::from(*job) + 1)
     }
+
+    ghost use Rattle.std.proofs.Common.{sym, ◌∙◌};
+
+    ghost one = { λ _ _ _ _ _ first second. first ∙ sym second };
 }
 
 // The answers of a round over a board of its own, and how many claims it used.

@@ -1,4 +1,4 @@
-use Rattle.std.proofs.Common.{◌≡◌, ◌+◌, ◌-◌, ◌*◌, ◌/◌, ℕ, arith, ap, length, map}
+use Rattle.std.proofs.Common.{◌≡◌, ◌+◌, ◌-◌, ◌*◌, ◌/◌, ℕ, arith, ap, length}
 use Rattle.worker_pool.proofs.Pooled.{share-sum}
 use Rattle.worker_pool.proofs.round.+fn-share_out-join+arg2+fn-share_out-join+arg3+share_out.Goals as goal
 
@@ -9,8 +9,7 @@ returns-clause-counts g t c =
     let rest : ℕ = c.args.workers - half in
     let all : rest + half ≡ c.args.workers = omega arith in
     let shares : (rest + half) * n ≡ c.args.workers * n = ap (λ k. k * n) all in
-    omega (arith, c.joined.ensures.counts, c.join-seat.ensures.first.1, c.join-seat.ensures.second.1, share-sum rest half n, shares)
+    omega (arith, c.joined.ensures.counts, c.join-mine.ensures.first.1, c.join-mine.ensures.second.1, share-sum rest half n, shares)
 
 pub returns-clause-done : goal.returns-clause-done
-returns-clause-done g t c =
-    c.joined.ensures.done (map (λ job. g.W.Work.answer_of c.args.work.now job) c.args.jobs.now) c.join-seat.ensures.first.2 c.join-seat.ensures.second.2
+returns-clause-done g t c = c.joined.ensures.done c.join-mine.ensures.first.2 c.join-mine.ensures.second.2

@@ -1,4 +1,4 @@
-use Rattle.std.proofs.Common.{◌≡◌, ◌<◌, ◌≤◌, ◌++◌, ◌∷◌, [], List, ℕ, ◌∙◌, ap, sym, subst, arith, length, map}
+use Rattle.std.proofs.Common.{◌≡◌, ◌<◌, ◌≤◌, ◌++◌, ◌∷◌, [], List, ℕ, ◌∙◌, ap, sym, subst, arith, length}
 use Rattle.std.proofs.lemmas.List.{length-append}
 use Rattle.claim_board.specs.Seats.{SeatData}
 use Rattle.claim_board.specs.Tidy.{times, once_below}
@@ -25,5 +25,6 @@ loop-number-preserved g c =
       c.in-Index.ensures.counts ∙ i.1,
       omega (arith, size, used, i.2),
       λ x. subst (λ (l : List ℕ). times x l ≤ once_below n x) (sym list) (once_more n c.in-Index.number before.list below answer.1 i.3 x),
-      subst (λ (l : List ℕ). Keeps (map (λ job. g.W.Work.answer_of c.args.work.now job) c.args.jobs.now) l c.keep_answer.new.kept.items) (sym list) (c.in-Ok.ensures before.list i.4),
+      subst (λ (l : List ℕ). Keeps (g.W.Work.answers c.args.work.now) c.args.jobs.now l c.keep_answer.new.kept.items) (sym list) (c.in-Ok.ensures.keeps before.list i.4),
+      c.in-Ok.ensures.room,
     )
