@@ -22,7 +22,8 @@ left_is_none (nodes.Solved low) h = absurd h
 left_is_none (nodes.Left low) h = refl
 
 -- another node in the place of one that is left
-set_counts : (tree : List Node) (i : ℕ) (n : Node) (count : ℕ) → i < length tree → IsLeft (node_at tree i) → one_if_split n ≡ count → split_nodes (set tree i n) ≡ split_nodes tree + count
+set_counts : (tree : List Node) (i : ℕ) (n : Node) (count : ℕ) → i < length tree → IsLeft (node_at tree i) → one_if_split n ≡ count
+    → split_nodes (set tree i n) ≡ split_nodes tree + count
 set_counts tree i n count lt left is =
     omega (arith, sum_by-set one_if_split tree i n (nodes.Left None) lt, left_is_none (node_at tree i) left, is)
 
@@ -32,7 +33,8 @@ lefts_count tree count low =
     let lefts : List Node = replicate count (nodes.Left (Some low)) in
     omega (arith, sum_by-append one_if_split tree lefts, sum_by-replicate one_if_split count (nodes.Left (Some low)))
 
-pub counted_on : (tree : List Node) (i : ℕ) (x : Expanded) → i < length tree → IsLeft (node_at tree i) → split_nodes (result_at tree i x) ≡ split_nodes tree + split_count x
+pub counted_on : (tree : List Node) (i : ℕ) (x : Expanded) → i < length tree → IsLeft (node_at tree i)
+    → split_nodes (result_at tree i x) ≡ split_nodes tree + split_count x
 counted_on tree i (Stuck m) lt left = set_counts tree i (nodes.Stuck m) 0 lt left refl
 counted_on tree i (Closed low high) lt left = set_counts tree i (nodes.Closed low high) 0 lt left refl
 counted_on tree i (Solved solved low) lt left = set_counts tree i (nodes.Solved low) 0 lt left refl

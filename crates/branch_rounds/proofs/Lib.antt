@@ -9,7 +9,6 @@ pub mod TakeLemmas
 pub mod TextLemmas
 pub mod KeptLemmas
 pub mod RoundLemmas
+pub mod WorkLemmas
 pub mod OutcomeLemmas
-pub mod QuestionLemmas
-pub mod ExpansionLemmas
 pub mod OneLemmas

@@ -26,7 +26,8 @@ never i j is ne = omega (arith, cond-false {A = ℕ} (i == j) 1 0 (ne_eqb i j ne
 
 pub times_before : (j first count : ℕ) → j < first → times j (numbers_from first count) ≡ 0
 times_before j first zero lt = refl
-times_before j first (suc count) lt = never first j (numbers_from (first + 1) count) (λ e. omega (arith, e, lt)) ∙ times_before j (first + 1) count (omega (arith, lt))
+times_before j first (suc count) lt =
+    never first j (numbers_from (first + 1) count) (λ e. omega (arith, e, lt)) ∙ times_before j (first + 1) count (omega (arith, lt))
 
 pub times_within : (j first count : ℕ) → first ≤ j → j < first + count → times j (numbers_from first count) ≡ 1
 times_within j first zero le lt = absurd (omega (arith, le, lt))
@@ -49,7 +50,8 @@ left_past tree j le = cond-false (nat_lt j (length tree)) (left_count (node_at t
 
 -- ---- one expansion more
 
-pub taken_more : (tree : List Node) (is : List ℕ) (xs : List Expanded) (x : Expanded) → length xs < length is → taken tree is (xs ++ x ∷ []) ≡ result_at (taken tree is xs) (get_or is (length xs) 0) x
+pub taken_more : (tree : List Node) (is : List ℕ) (xs : List Expanded) (x : Expanded) → length xs < length is
+    → taken tree is (xs ++ x ∷ []) ≡ result_at (taken tree is xs) (get_or is (length xs) 0) x
 taken_more tree [] xs x lt = absurd (omega (arith, lt))
 taken_more tree (i ∷ is) [] x lt = refl
 taken_more tree (i ∷ is) (y ∷ ys) x lt = taken_more (result_at tree i y) is ys x (omega (arith, lt))
@@ -58,7 +60,8 @@ abbrev pub total : List Expanded → ℕ
 total [] = 0
 total (x ∷ xs) = child_count x + total xs
 
-pub replaced_more : (first : ℕ) (xs : List Expanded) (x : Expanded) → replaced first (xs ++ x ∷ []) ≡ replaced first xs ++ numbers_from (first + total xs) (child_count x)
+pub replaced_more : (first : ℕ) (xs : List Expanded) (x : Expanded)
+    → replaced first (xs ++ x ∷ []) ≡ replaced first xs ++ numbers_from (first + total xs) (child_count x)
 replaced_more first [] x =
     let e : first ≡ first + 0 = omega arith in
     append-nil (numbers_from first (child_count x)) ∙ ap (λ (n : ℕ). numbers_from n (child_count x)) e
@@ -105,15 +108,23 @@ narrow_rest x xs h = λ k y lt is. h (suc k) y (omega (arith, lt)) is
 pub length-replaced : (first : ℕ) (xs : List Expanded) → AreNarrow xs → length (replaced first xs) ≤ 6 * splits_of xs
 length-replaced first [] h = omega arith
 length-replaced first (x ∷ xs) h =
-    omega (arith, length-append (numbers_from first (child_count x)) (replaced (first + child_count x) xs), length-numbers_from first (child_count x), six_children x (narrow_first x xs h), length-replaced (first + child_count x) xs (narrow_rest x xs h))
+    omega (
+      arith,
+      length-append (numbers_from first (child_count x)) (replaced (first + child_count x) xs),
+      length-numbers_from first (child_count x),
+      six_children x (narrow_first x xs h),
+      length-replaced (first + child_count x) xs (narrow_rest x xs h),
+    )
 
 -- ---- numbers in a row
 
-pub pushed_number : (old paths pushed : List ℕ) (first count : ℕ) → paths ≡ old ++ numbers_from first count → pushed ≡ paths ++ (first + count) ∷ [] → pushed ≡ old ++ numbers_from first (count + 1)
+pub pushed_number : (old paths pushed : List ℕ) (first count : ℕ) → paths ≡ old ++ numbers_from first count → pushed ≡ paths ++ (first + count) ∷ []
+    → pushed ≡ old ++ numbers_from first (count + 1)
 pushed_number old paths pushed first count was is =
     is ∙ ap (λ (ns : List ℕ). ns ++ (first + count) ∷ []) was ∙ append_assoc old (numbers_from first count) ((first + count) ∷ [])
     ∙ ap (λ (ns : List ℕ). old ++ ns) (sym (numbers_from_more first count))
 
-pub numbers_all : (old paths : List ℕ) (first first' count count' : ℕ) → paths ≡ old ++ numbers_from first count → first ≡ first' → count ≡ count' → paths ≡ old ++ numbers_from first' count'
+pub numbers_all : (old paths : List ℕ) (first first' count count' : ℕ) → paths ≡ old ++ numbers_from first count → first ≡ first' → count ≡ count'
+    → paths ≡ old ++ numbers_from first' count'
 numbers_all old paths first first' count count' is e f =
     is ∙ ap (λ (n : ℕ). old ++ numbers_from n count) e ∙ ap (λ (n : ℕ). old ++ numbers_from first' n) f

@@ -2,20 +2,18 @@
 use Rattle.std.proofs.Common.{⊎_elim, inl, inr, ◌⊎◌, ◌≡◌, ℕ, zero, suc, ◌+◌, ◌<◌, ◌≤◌, List, [], ◌∷◌, length, get_or, refl, sym, ◌∙◌, ap, subst, arith, Some, None}
 use Rattle.std.specs.Prelude.{Bool}
 use Rattle.std.proofs.lemmas.Bool.{cases_lt, cases_eq}
-use Rattle.hoist_base.specs.LineData.{LineData}
+use Rattle.hoist_base.specs.LineData.{LineData, is_single}
 use Rattle.choice_tree.specs.declared.question.Decision.{Decision}
 use Rattle.choice_tree.specs.declared.node.Node.{Node}
 use Rattle.choice_tree.specs.declared.node.Node.TheVariants.{Split, Closed, Stuck, Solved, Left}
-use Rattle.choice_tree.specs.Nodes.{node_at, IsLeft, children_of, IsChild, IsPathTo}
+use Rattle.choice_tree.specs.Nodes.{node_at, IsLeft, NoneLeft, SomeLeft, children_of, IsChild, IsPathTo}
 use Rattle.choice_tree.specs.Trees.{IsTree}
 use Rattle.choice_tree.proofs.PathLemmas.{one_path}
 use Rattle.choice_tree.proofs.NodeLemmas.{split_is_not_left}
-use Rattle.period_constraints.specs.Questions.{FitsPath}
-use Rattle.period_constraints.specs.Proves.{Shows, Proves}
+use Rattle.path_constraints.specs.Questions.{FitsPath}
+use Rattle.path_constraints.specs.Proves.{Shows, Proves}
 use Rattle.answer_text.specs.Nodes.{IsNodeText}
-use Rattle.answer_text.specs.Answers.{is_single}
-use Rattle.branch_rounds.specs.Grown.{State, start, cap_of, LowRefutes, IsBound}
-use Rattle.branch_rounds.specs.Counted.{NoneLeft, SomeLeft}
+use Rattle.branch_rounds.specs.Grown.{Search, start, cap_of, LowRefutes, IsBound}
 use Rattle.branch_rounds.specs.Kept.{times, left_at, shown_below, IsPlaced, IsKept, HasGoodLow}
 use Rattle.branch_rounds.proofs.ListLemmas.{once, never, left_there, left_past}
 use Rattle.branch_rounds.proofs.PlacedLemmas.{left_one}
@@ -25,7 +23,7 @@ use Rattle.branch_rounds.proofs.RoundLemmas.{at_frontier}
 
 -- ---- the bound, path by path
 
-pub record IsBoundTo (l : LineData) (s : State) (n bound : ℕ) : Type 0 where
+pub record IsBoundTo (l : LineData) (s : Search) (n bound : ℕ) : Type 0 where
   pub some : 1 ≤ bound
   pub most : bound ≤ cap_of l s.best
   pub refuted : (k : ℕ) (path : List Decision) (period : ℕ) → k < n → IsPathTo s.tree (get_or s.frontier k 0) path
@@ -34,11 +32,13 @@ pub record IsBoundTo (l : LineData) (s : State) (n bound : ℕ) : Type 0 where
       ⊎ ((k : ℕ) × (path : List Decision) × (k < n) × IsPathTo s.tree (get_or s.frontier k 0) path
       × (LowRefutes l path (node_at s.tree (get_or s.frontier k 0)) bound → ⊥))
 
-pub bound_begins : (l : LineData) (s : State) (bound : ℕ) → 1 ≤ bound → bound ≡ cap_of l s.best → IsBoundTo l s 0 bound
+pub bound_begins : (l : LineData) (s : Search) (bound : ℕ) → 1 ≤ bound → bound ≡ cap_of l s.best → IsBoundTo l s 0 bound
 bound_begins l s bound some e = record { some = some; most = omega (arith, e); refuted = λ k path period lt. absurd (omega (arith, lt)); met = inl e }
 
-pub bound_more : (l : LineData) (s : State) (n bound bound' : ℕ) (path : List Decision) (node : Node) → IsTree s.tree → IsBoundTo l s n bound → IsPathTo s.tree (get_or s.frontier n 0) path → node ≡ node_at s.tree (get_or s.frontier n 0)
-    → 1 ≤ bound' → bound' ≤ bound → ((t : ℕ) → 1 ≤ t → t < bound' → LowRefutes l path node t) → (bound' ≡ bound) ⊎ (LowRefutes l path node bound' → ⊥) → IsBoundTo l s (n + 1) bound'
+pub bound_more : (l : LineData) (s : Search) (n bound bound' : ℕ) (path : List Decision) (node : Node) → IsTree s.tree → IsBoundTo l s n bound
+    → IsPathTo s.tree (get_or s.frontier n 0) path → node ≡ node_at s.tree (get_or s.frontier n 0)
+    → 1 ≤ bound' → bound' ≤ bound → ((t : ℕ) → 1 ≤ t → t < bound' → LowRefutes l path node t) → (bound' ≡ bound) ⊎ (LowRefutes l path node bound' → ⊥)
+    → IsBoundTo l s (n + 1) bound'
 bound_more l s n bound bound' path node tree b leads is some le refuted met =
     let at = node_at s.tree (get_or s.frontier n 0) in record {
       some = some;
@@ -48,7 +48,8 @@ bound_more l s n bound bound' path node tree b leads is some le refuted met =
           (λ below. b.refuted k other period below leads' from (omega (arith, to, le)))
           (λ ge.
           let e : n ≡ k = omega (arith, lt, ge) in
-          let P : ℕ → Type 0 = λ i. (ds : List Decision) → IsPathTo s.tree (get_or s.frontier i 0) ds → LowRefutes l ds (node_at s.tree (get_or s.frontier i 0)) period in
+          let P : ℕ → Type 0 =
+          λ i. (ds : List Decision) → IsPathTo s.tree (get_or s.frontier i 0) ds → LowRefutes l ds (node_at s.tree (get_or s.frontier i 0)) period in
           let here : P n = λ ds leads''.
           let same : path ≡ ds = one_path s.tree (get_or s.frontier n 0) path ds tree leads leads'' in
           let D : List Decision → Type 0 = λ es. LowRefutes l es at period in
@@ -71,7 +72,7 @@ bound_more l s n bound bound' path node tree b leads is some le refuted met =
           met;
     }
 
-pub bound_ends : (l : LineData) (s : State) (n bound : ℕ) → n ≡ length s.frontier → IsBoundTo l s n bound → IsBound l s bound
+pub bound_ends : (l : LineData) (s : Search) (n bound : ℕ) → n ≡ length s.frontier → IsBoundTo l s n bound → IsBound l s bound
 bound_ends l s n bound e b =
     record {
       some = b.some;
@@ -81,7 +82,8 @@ bound_ends l s n bound e b =
     }
 
 -- the low of a node that is left
-good_low : (l : LineData) (path : List Decision) (n : Node) (cap : ℕ) (single : Bool) → IsLeft n → Shows l path n (shown_below n cap) → IsNodeText single n → HasGoodLow l path n
+good_low : (l : LineData) (path : List Decision) (n : Node) (cap : ℕ) (single : Bool) → IsLeft n → Shows l path n (shown_below n cap) → IsNodeText single n
+    → HasGoodLow l path n
 good_low l path (Split question children) cap single h s t = absurd h
 good_low l path (Closed low high) cap single h s t = absurd h
 good_low l path (Stuck m) cap single h s t = absurd h
@@ -89,11 +91,13 @@ good_low l path (Solved low) cap single h s t = absurd h
 good_low l path (Left None) cap single h s t = tt
 good_low l path (Left (Some low)) cap single h s t = (s.closed low (only low), t.few)
 
-pub good_at : (l : LineData) (s : State) (k : ℕ) (path : List Decision) (node : Node) → IsKept l s → k < length s.frontier → IsPathTo s.tree (get_or s.frontier k 0) path → node ≡ node_at s.tree (get_or s.frontier k 0) → HasGoodLow l path node
+pub good_at : (l : LineData) (s : Search) (k : ℕ) (path : List Decision) (node : Node) → IsKept l s → k < length s.frontier
+    → IsPathTo s.tree (get_or s.frontier k 0) path → node ≡ node_at s.tree (get_or s.frontier k 0) → HasGoodLow l path node
 good_at l s k path node kept lt leads is =
     let (there, left) = at_frontier s k kept.placed lt in
     let i = get_or s.frontier k 0 in
-    subst (HasGoodLow l path) (sym is) (good_low l path (node_at s.tree i) (cap_of l s.best) (is_single l) left (kept.shows i path there leads) (kept.texts i there))
+    subst (HasGoodLow l path) (sym is)
+    (good_low l path (node_at s.tree i) (cap_of l s.best) (is_single l) left (kept.shows i path there leads) (kept.texts i there))
 
 -- ---- the proof
 
@@ -105,11 +109,13 @@ found (i ∷ is) j some =
     (λ ne. let r = found is j (omega (arith, some, never i j is ne)) in (suc r.0, omega (arith, r.1), r.2))
     (cases_eq i j)
 
-pub in_frontier : (s : State) (i : ℕ) → IsPlaced s → i < length s.tree → IsLeft (node_at s.tree i) → (k : ℕ) × (k < length s.frontier) × (get_or s.frontier k 0 ≡ i)
+pub in_frontier : (s : Search) (i : ℕ) → IsPlaced s → i < length s.tree → IsLeft (node_at s.tree i)
+    → (k : ℕ) × (k < length s.frontier) × (get_or s.frontier k 0 ≡ i)
 in_frontier s i p lt left = found s.frontier i (omega (arith, p.left i, left_there s.tree i lt, left_one (node_at s.tree i) left))
 
 -- a node that is left, whose low refutes what is below the bound
-left_shows : (l : LineData) (path : List Decision) (n : Node) (cap bound : ℕ) → IsLeft n → Shows l path n (shown_below n cap) → ((period : ℕ) → 1 ≤ period → period < bound → LowRefutes l path n period) → Shows l path n bound
+left_shows : (l : LineData) (path : List Decision) (n : Node) (cap bound : ℕ) → IsLeft n → Shows l path n (shown_below n cap)
+    → ((period : ℕ) → 1 ≤ period → period < bound → LowRefutes l path n period) → Shows l path n bound
 left_shows l path (Split question children) cap bound h s r = absurd h
 left_shows l path (Closed low high) cap bound h s r = absurd h
 left_shows l path (Stuck m) cap bound h s r = absurd h
@@ -117,14 +123,15 @@ left_shows l path (Solved low) cap bound h s r = absurd h
 left_shows l path (Left None) cap bound h s r = record { closed = s.closed; refuted = λ period some lt. absurd (r period some lt) }
 left_shows l path (Left (Some low)) cap bound h s r = record { closed = s.closed; refuted = λ period some lt. (low, only low, r period some lt) }
 
-node_shows : (l : LineData) (path : List Decision) (n : Node) (cap bound : ℕ) → bound ≤ cap → Shows l path n (shown_below n cap) → (IsLeft n → (period : ℕ) → 1 ≤ period → period < bound → LowRefutes l path n period) → Shows l path n bound
+node_shows : (l : LineData) (path : List Decision) (n : Node) (cap bound : ℕ) → bound ≤ cap → Shows l path n (shown_below n cap)
+    → (IsLeft n → (period : ℕ) → 1 ≤ period → period < bound → LowRefutes l path n period) → Shows l path n bound
 node_shows l path (Split question children) cap bound le s r = s
 node_shows l path (Closed low high) cap bound le s r = shows_fewer l path (Closed low high) cap bound le s
 node_shows l path (Stuck m) cap bound le s r = s
 node_shows l path (Solved low) cap bound le s r = shows_fewer l path (Solved low) cap bound le s
 node_shows l path (Left low) cap bound le s r = left_shows l path (Left low) cap bound tt s (r tt)
 
-pub proves : (l : LineData) (s : State) (bound : ℕ) → IsKept l s → IsBound l s bound → Proves l s.tree bound
+pub proves : (l : LineData) (s : Search) (bound : ℕ) → IsKept l s → IsBound l s bound → Proves l s.tree bound
 proves l s bound kept b i path lt leads =
     node_shows l path (node_at s.tree i) (cap_of l s.best) bound b.most (kept.shows i path lt leads)
     (λ left period some below.
@@ -134,14 +141,14 @@ proves l s bound kept b i path lt leads =
     subst P r.2 here leads)
 
 -- with no path left no node is left, and with some there is one
-pub none_left : (s : State) → IsPlaced s → length s.frontier ≡ 0 → NoneLeft s.tree
+pub none_left : (s : Search) → IsPlaced s → length s.frontier ≡ 0 → NoneLeft s.tree
 none_left s p none i lt left = let r = in_frontier s i p lt left in omega (arith, r.1, none)
 
-pub some_left : (s : State) → IsPlaced s → 0 < length s.frontier → SomeLeft s.tree
+pub some_left : (s : Search) → IsPlaced s → 0 < length s.frontier → SomeLeft s.tree
 some_left s p some = let at = at_frontier s 0 p some in (get_or s.frontier 0 0, at.0, at.1)
 
 -- with no path left the bound is the cap
-pub bound_whole : (l : LineData) (s : State) (bound : ℕ) → IsBound l s bound → length s.frontier ≡ 0 → bound ≡ cap_of l s.best
+pub bound_whole : (l : LineData) (s : Search) (bound : ℕ) → IsBound l s bound → length s.frontier ≡ 0 → bound ≡ cap_of l s.best
 bound_whole l s bound b none = ⊎_elim (λ e. e) (λ r. absurd (omega (arith, r.2, none))) b.met
 
 -- ---- the root
@@ -178,8 +185,10 @@ root_once : (j : ℕ) → times j (0 ∷ []) ≡ left_at (Left None ∷ []) j
 root_once zero = omega (arith, once 0 0 [] refl, left_there (Left None ∷ []) 0 (omega arith))
 root_once (suc j) = omega (arith, never 0 (suc j) [] (λ e. omega (arith, e)), left_past (Left None ∷ []) (suc j) (omega arith))
 
-root_shows : (l : LineData) (i : ℕ) (path : List Decision) → i < 1 → Shows l path (node_at (Left None ∷ []) i) (shown_below (node_at (Left None ∷ []) i) (l.max_period + 1))
-root_shows l zero path lt = record { closed = λ walk there. absurd (omega (arith, there.1)); refuted = λ period some below. absurd (omega (arith, some, below)) }
+root_shows : (l : LineData) (i : ℕ) (path : List Decision) → i < 1
+    → Shows l path (node_at (Left None ∷ []) i) (shown_below (node_at (Left None ∷ []) i) (l.max_period + 1))
+root_shows l zero path lt =
+    record { closed = λ walk there. absurd (omega (arith, there.1)); refuted = λ period some below. absurd (omega (arith, some, below)) }
 root_shows l (suc i) path lt = absurd (omega (arith, lt))
 
 root_text : (l : LineData) (i : ℕ) → i < 1 → IsNodeText (is_single l) (node_at (Left None ∷ []) i)

@@ -12,7 +12,7 @@ use Rattle.choice_tree.proofs.NodeLemmas.{length-numbers_from}
 use Rattle.node_expand.specs.declared.solved.Solved as plans
 use Rattle.node_expand.specs.declared.expanded.Expanded.{Expanded}
 use Rattle.node_expand.specs.declared.expanded.Expanded.TheVariants.{Stuck, Closed, Solved, Split}
-use Rattle.branch_rounds.specs.Grown.{State, result_at, taken, child_count, replaced, split_count, splits_of}
+use Rattle.branch_rounds.specs.Grown.{Search, result_at, taken, child_count, replaced, split_count, splits_of}
 use Rattle.branch_rounds.specs.Kept.{times, left_count, left_at, IsPlaced, AreNarrow}
 use Rattle.branch_rounds.proofs.TreeLemmas.{Grows, grows_end, grows_split}
 use Rattle.branch_rounds.proofs.CountLemmas.{counted_on}
@@ -66,7 +66,8 @@ left_most (nodes.Solved low) = omega arith
 left_most (nodes.Left low) = omega arith
 
 -- a number in the frontier is that of a node that is left
-pub is_left : (tree : List Node) (frontier : List ℕ) (j : ℕ) → ((i : ℕ) → times i frontier ≡ left_at tree i) → 0 < times j frontier → (j < length tree) × IsLeft (node_at tree j)
+pub is_left : (tree : List Node) (frontier : List ℕ) (j : ℕ) → ((i : ℕ) → times i frontier ≡ left_at tree i) → 0 < times j frontier
+    → (j < length tree) × IsLeft (node_at tree j)
 is_left tree frontier j left some =
     ⊎_elim
     (λ lt. (lt, one_left (node_at tree j) (omega (arith, some, left j, left_there tree j lt))))
@@ -74,11 +75,11 @@ is_left tree frontier j left some =
     (cases_lt j (length tree))
 
 -- the state with these parts; the best doesn't matter here
-abbrev pub placed_at : List Node → List ℕ → Option plans.Solved → ℕ → State
+abbrev pub placed_at : List Node → List ℕ → Option plans.Solved → ℕ → Search
 placed_at tree frontier best splits = record { tree = tree; frontier = frontier; best = best; splits = splits }
 
 -- one expansion's paths in the place of its own
-abbrev pub one_on : List Node → List ℕ → ℕ → List ℕ → Option plans.Solved → ℕ → Expanded → State
+abbrev pub one_on : List Node → List ℕ → ℕ → List ℕ → Option plans.Solved → ℕ → Expanded → Search
 one_on tree done i rest best splits x =
     placed_at (result_at tree i x) ((done ++ numbers_from (length tree) (child_count x)) ++ rest) best (splits + split_count x)
 
@@ -86,10 +87,12 @@ times_on : (j : ℕ) (done new rest : List ℕ) → times j ((done ++ new) ++ re
 times_on j done new rest = omega (arith, times-append j (done ++ new) rest, times-append j done new)
 
 -- node i is the first of the rest
-pub first_left : (tree : List Node) (done : List ℕ) (i : ℕ) (rest : List ℕ) → ((j : ℕ) → times j (done ++ i ∷ rest) ≡ left_at tree j) → (i < length tree) × IsLeft (node_at tree i)
+pub first_left : (tree : List Node) (done : List ℕ) (i : ℕ) (rest : List ℕ) → ((j : ℕ) → times j (done ++ i ∷ rest) ≡ left_at tree j)
+    → (i < length tree) × IsLeft (node_at tree i)
 first_left tree done i rest left = is_left tree (done ++ i ∷ rest) i left (omega (arith, times-append i done (i ∷ rest), once i i rest refl))
 
-left_on : (tree new : List Node) (done : List ℕ) (i : ℕ) (rest : List ℕ) (node : Node) (count : ℕ) (low : List Constraint) → Grows tree new i node count low → left_count node ≡ 0
+left_on : (tree new : List Node) (done : List ℕ) (i : ℕ) (rest : List ℕ) (node : Node) (count : ℕ) (low : List Constraint) → Grows tree new i node count low
+    → left_count node ≡ 0
     → ((j : ℕ) → times j (done ++ i ∷ rest) ≡ left_at tree j) → (j : ℕ) → times j ((done ++ numbers_from (length tree) count) ++ rest) ≡ left_at new j
 left_on tree new done i rest node count low g none left j =
     let at : times j (done ++ i ∷ rest) ≡ times j done + times j (i ∷ rest) = times-append j done (i ∷ rest) in
@@ -123,7 +126,8 @@ left_on tree new done i rest node count low g none left j =
     (cases_lt j (length tree)))
     (cases_eq j i)
 
-pub placed_step : (tree : List Node) (done : List ℕ) (i : ℕ) (rest : List ℕ) (best best' : Option plans.Solved) (splits : ℕ) (x : Expanded) → IsPlaced (placed_at tree (done ++ i ∷ rest) best splits) → child_count x ≤ 6 → splits < 20000
+pub placed_step : (tree : List Node) (done : List ℕ) (i : ℕ) (rest : List ℕ) (best best' : Option plans.Solved) (splits : ℕ) (x : Expanded)
+    → IsPlaced (placed_at tree (done ++ i ∷ rest) best splits) → child_count x ≤ 6 → splits < 20000
     → Grows tree (result_at tree i x) i (node_of (length tree) x) (child_count x) (low_of x) × IsPlaced (one_on tree done i rest best' splits x)
 placed_step tree done i rest best best' splits x p few room =
     let (lt, left) = first_left tree done i rest p.left in
@@ -153,12 +157,14 @@ pub on_more : (done : List ℕ) (first : ℕ) (xs : List ℕ) (ys rest : List �
 on_more done first xs ys rest = ap (λ (zs : List ℕ). zs ++ rest) (append_assoc done xs ys)
 
 -- the frontier stays what is left while the expansions of its first paths are taken
-pub placed_all : (tree : List Node) (done rest : List ℕ) (best best' : Option plans.Solved) (splits : ℕ) (xs : List Expanded) → IsPlaced (placed_at tree (done ++ rest) best splits) → AreNarrow xs → length xs ≤ length rest → splits + length xs ≤ 20000
+pub placed_all : (tree : List Node) (done rest : List ℕ) (best best' : Option plans.Solved) (splits : ℕ) (xs : List Expanded)
+    → IsPlaced (placed_at tree (done ++ rest) best splits) → AreNarrow xs → length xs ≤ length rest → splits + length xs ≤ 20000
     → IsPlaced (placed_at (taken tree rest xs) ((done ++ replaced (length tree) xs) ++ drop (length xs) rest) best' (splits + splits_of xs)) × (length (taken tree rest xs) ≡ length tree + total xs)
 placed_all tree done rest best best' splits [] p narrow few room =
     let F : List ℕ → Type 0 = λ ns. IsPlaced (placed_at tree (ns ++ rest) best' splits) in
     let N : ℕ → Type 0 = λ n. IsPlaced (placed_at tree ((done ++ []) ++ rest) best' n) in
-    let q : IsPlaced (placed_at tree (done ++ rest) best' splits) = record { tree = p.tree; nodes = p.nodes; paths = p.paths; counted = p.counted; left = p.left } in
+    let q : IsPlaced (placed_at tree (done ++ rest) best' splits) =
+    record { tree = p.tree; nodes = p.nodes; paths = p.paths; counted = p.counted; left = p.left } in
     let e : splits ≡ splits + 0 = omega arith in
     (subst N e (subst F (sym (append-nil done)) q), omega arith)
 placed_all tree done [] best best' splits (x ∷ xs) p narrow few room = absurd (omega (arith, few))
@@ -166,10 +172,14 @@ placed_all tree done (i ∷ is) best best' splits (x ∷ xs) p narrow few room =
     let (g, one) = placed_step tree done i is best best' splits x p (narrow_first x xs narrow) (omega (arith, room)) in
     let new = result_at tree i x in
     let front = numbers_from (length tree) (child_count x) in
-    let r = placed_all new (done ++ front) is best' best' (splits + split_count x) xs one (narrow_rest x xs narrow) (omega (arith, few)) (omega (arith, room, one_split x)) in
+    let r =
+    placed_all new (done ++ front) is best' best' (splits + split_count x) xs one (narrow_rest x xs narrow) (omega (arith, few))
+    (omega (arith, room, one_split x)) in
     let F : List ℕ → Type 0 = λ ns. IsPlaced (placed_at (taken new is xs) ns best' (splits + split_count x + splits_of xs)) in
-    let R : ℕ → Type 0 = λ n. IsPlaced (placed_at (taken new is xs) ((done ++ (front ++ replaced n xs)) ++ drop (length xs) is) best' (splits + split_count x + splits_of xs)) in
-    let N : ℕ → Type 0 = λ n. IsPlaced (placed_at (taken new is xs) ((done ++ (front ++ replaced (length tree + child_count x) xs)) ++ drop (length xs) is) best' n) in
+    let R : ℕ → Type 0 =
+    λ n. IsPlaced (placed_at (taken new is xs) ((done ++ (front ++ replaced n xs)) ++ drop (length xs) is) best' (splits + split_count x + splits_of xs)) in
+    let N : ℕ → Type 0 =
+    λ n. IsPlaced (placed_at (taken new is xs) ((done ++ (front ++ replaced (length tree + child_count x) xs)) ++ drop (length xs) is) best' n) in
     let e : splits + split_count x + splits_of xs ≡ splits + (split_count x + splits_of xs) = omega arith in
     let on = on_more done (length new) front (replaced (length new) xs) (drop (length xs) is) in
     (subst N e (subst R g.size (subst F on r.0)), omega (arith, r.1, g.size))

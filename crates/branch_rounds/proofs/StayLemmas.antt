@@ -9,11 +9,11 @@ use Rattle.longest_path.specs.declared.systems.Arc.{Arc}
 use Rattle.choice_tree.specs.declared.question.Decision.{Decision}
 use Rattle.choice_tree.specs.declared.constraint.Constraint.{Constraint}
 use Rattle.choice_tree.specs.declared.constraint.Constraint.TheVariants.{Min, Max, Entry, Visit, Repeat, Decided}
-use Rattle.period_constraints.specs.Tanks.{no_decision, decision_at, high}
-use Rattle.period_constraints.specs.Questions.{FitsPath}
-use Rattle.period_constraints.specs.Constraints.{IsOrder, IsConstraint, arc_of}
-use Rattle.period_constraints.specs.Proves.{Walks, IsClosedWalk}
-use Rattle.period_constraints.proofs.GrowLemmas.{decided_at}
+use Rattle.path_constraints.specs.Tanks.{no_decision, decision_at, high}
+use Rattle.path_constraints.specs.Questions.{FitsPath}
+use Rattle.path_constraints.specs.Constraints.{IsOrder, IsConstraint, arc_of}
+use Rattle.path_constraints.specs.Proves.{Walks, IsClosedWalk}
+use Rattle.path_constraints.proofs.GrowLemmas.{decided_at}
 
 decision_stays : (path : List Decision) (d : Decision) (i : ℕ) → i < length path → decision_at (path ++ d ∷ []) i ≡ decision_at path i
 decision_stays path d i lt = get_or-append path (d ∷ []) no_decision i lt
@@ -39,7 +39,8 @@ either_ends true x from to w w' q = (refl, refl)
 either_ends false x from to w w' q = (refl, refl)
 
 -- what a decision asks is settled
-decided_same : (l : LineData) (path : List Decision) (d : Decision) (i : ℕ) → FitsPath l (path ++ d ∷ []) → 2 ≤ length l.stages → i < length path → arc_of l path (Decided i) ≡ arc_of l (path ++ d ∷ []) (Decided i)
+decided_same : (l : LineData) (path : List Decision) (d : Decision) (i : ℕ) → FitsPath l (path ++ d ∷ []) → 2 ≤ length l.stages → i < length path
+    → arc_of l path (Decided i) ≡ arc_of l (path ++ d ∷ []) (Decided i)
 decided_same l path d i fits two lt =
     let longer = path ++ d ∷ [] in
     let size : length longer ≡ length path + 1 = length-append path (d ∷ []) in
@@ -50,7 +51,8 @@ decided_same l path d i fits two lt =
     sym (ap (λ (ds : List Decision). arc_of l ds (Decided i)) short) ∙ a ∙ sym b ∙ ap (λ (ds : List Decision). arc_of l ds (Decided i)) whole
 
 -- a constraint's ends are the same below every path that goes on
-pub ends_stay : (l : LineData) (path : List Decision) (d : Decision) (t : Constraint) → FitsPath l (path ++ d ∷ []) → 2 ≤ length l.stages → IsConstraint l path t → SameEnds (arc_of l path t) (arc_of l (path ++ d ∷ []) t)
+pub ends_stay : (l : LineData) (path : List Decision) (d : Decision) (t : Constraint) → FitsPath l (path ++ d ∷ []) → 2 ≤ length l.stages
+    → IsConstraint l path t → SameEnds (arc_of l path t) (arc_of l (path ++ d ∷ []) t)
 ends_stay l path d (Min c k) fits two h = (refl, refl)
 ends_stay l path d (Max c k) fits two h = (refl, refl)
 ends_stay l path d (Entry c) fits two h = (refl, refl)
@@ -64,14 +66,21 @@ ends_stay l path d (Decided i) fits two h =
     let e = decided_same l path d i fits two h.0 in
     (ap (λ (a : Arc). a.from) e, ap (λ (a : Arc). a.to) e)
 
-walks_stay : (l : LineData) (path : List Decision) (d : Decision) (i i' : ℕ) (walk : List Constraint) (j j' : ℕ) → FitsPath l (path ++ d ∷ []) → 2 ≤ length l.stages → i ≡ i' → j ≡ j' → Walks l path i walk j → Walks l (path ++ d ∷ []) i' walk j'
+walks_stay : (l : LineData) (path : List Decision) (d : Decision) (i i' : ℕ) (walk : List Constraint) (j j' : ℕ) → FitsPath l (path ++ d ∷ [])
+    → 2 ≤ length l.stages → i ≡ i' → j ≡ j' → Walks l path i walk j → Walks l (path ++ d ∷ []) i' walk j'
 walks_stay l path d i i' [] j j' fits two e f h = sym e ∙ h ∙ f
 walks_stay l path d i i' (t ∷ ts) j j' fits two e f h =
-    let ends = ends_stay l path d t fits two h.0 in
-    (constraint_stays l path d t h.0, sym ends.0 ∙ h.1 ∙ e, walks_stay l path d (arc_of l path t).to (arc_of l (path ++ d ∷ []) t).to ts j j' fits two ends.1 f h.2)
+    let ends = ends_stay l path d t fits two h.0 in (
+      constraint_stays l path d t h.0,
+      sym ends.0 ∙ h.1 ∙ e,
+      walks_stay l path d (arc_of l path t).to
+          (arc_of l (path ++ d ∷ []) t).to ts j j' fits two ends.1 f h.2,
+    )
 
-pub closed_stays : (l : LineData) (path : List Decision) (d : Decision) (walk : List Constraint) → FitsPath l (path ++ d ∷ []) → 2 ≤ length l.stages → IsClosedWalk l path walk → IsClosedWalk l (path ++ d ∷ []) walk
+pub closed_stays : (l : LineData) (path : List Decision) (d : Decision) (walk : List Constraint) → FitsPath l (path ++ d ∷ []) → 2 ≤ length l.stages
+    → IsClosedWalk l path walk → IsClosedWalk l (path ++ d ∷ []) walk
 closed_stays l path d [] fits two h = absurd h
 closed_stays l path d (t ∷ ts) fits two h =
     let ends = ends_stay l path d t fits two h.0 in
-    walks_stay l path d (arc_of l path t).from (arc_of l (path ++ d ∷ []) t).from (t ∷ ts) (arc_of l path t).from (arc_of l (path ++ d ∷ []) t).from fits two ends.0 ends.0 h
+    walks_stay l path d (arc_of l path t).from (arc_of l (path ++ d ∷ []) t).from (t ∷ ts) (arc_of l path t).from
+    (arc_of l (path ++ d ∷ []) t).from fits two ends.0 ends.0 h

@@ -6,13 +6,14 @@ use Rattle.choice_tree.specs.declared.node.Node.{Node}
 use Rattle.choice_tree.specs.Nodes.{node_at, IsLeft, numbers_from}
 use Rattle.node_expand.specs.declared.solved.Solved as plans
 use Rattle.node_expand.specs.declared.expanded.Expanded.{Expanded}
-use Rattle.branch_rounds.specs.Grown.{State, result_at, taken, child_count, replaced, split_count, splits_of, better, best_of, after}
+use Rattle.branch_rounds.specs.Grown.{Search, result_at, taken, child_count, replaced, split_count, splits_of, better, best_of, after}
 use Rattle.branch_rounds.specs.Kept.{left_at, times, IsPlaced, AreNarrow}
 use Rattle.branch_rounds.proofs.ListLemmas.{taken_more, replaced_more, best_more, splits_more, few_splits, total}
 use Rattle.branch_rounds.proofs.PlacedLemmas.{placed_at, placed_all, first_left}
 
 -- these expansions were taken, and the rest is to come
-pub record IsTaking (s : State) (all done rest : List Expanded) (k : ℕ) (tree : List Node) (paths : List ℕ) (best : Option plans.Solved) (splits : ℕ) (frontier : List ℕ) : Type 0 where
+pub record IsTaking (s : Search) (all done rest : List Expanded) (k : ℕ) (tree : List Node) (paths : List ℕ) (best : Option plans.Solved) (splits : ℕ)
+    (frontier : List ℕ) : Type 0 where
   pub whole : done ++ rest ≡ all
   pub count : k ≡ length done
   pub is_tree : tree ≡ taken s.tree s.frontier done
@@ -22,7 +23,7 @@ pub record IsTaking (s : State) (all done rest : List Expanded) (k : ℕ) (tree 
   pub is_frontier : frontier ≡ s.frontier
 
 -- what may be taken from a state
-pub record CanTake (s : State) (all : List Expanded) : Type 0 where
+pub record CanTake (s : Search) (all : List Expanded) : Type 0 where
   pub placed : IsPlaced s
   pub narrow : AreNarrow all
   pub few : length all ≤ length s.frontier
@@ -46,18 +47,35 @@ narrow_next all done rest x e h =
     let at : get_or all (length done) x ≡ x = sym (ap (λ (ys : List Expanded). get_or ys (length done) x) e) ∙ get_or_at done x rest x (length done) refl in
     h (length done) x (omega (arith, sym (ap (λ (ys : List Expanded). length ys) e), length-append done (x ∷ rest))) (sym at)
 
-pub in_frontier : (s : State) (all done rest : List Expanded) (x : Expanded) (k : ℕ) (tree : List Node) (paths : List ℕ) (best : Option plans.Solved) (splits : ℕ) (frontier : List ℕ) → CanTake s all → IsTaking s all done (x ∷ rest) k tree paths best splits frontier → k < length frontier
+pub in_frontier : (s : Search) (all done rest : List Expanded) (x : Expanded) (k : ℕ) (tree : List Node) (paths : List ℕ) (best : Option plans.Solved)
+    (splits : ℕ) (frontier : List ℕ)
+    → CanTake s all → IsTaking s all done (x ∷ rest) k tree paths best splits frontier → k < length frontier
 in_frontier s all done rest x k tree paths best splits frontier can t =
-    omega (arith, t.count, can.few, sym (ap (λ (ys : List Expanded). length ys) t.whole), length-append done (x ∷ rest), ap (λ (ys : List ℕ). length ys) t.is_frontier)
+    omega (
+      arith,
+      t.count,
+      can.few,
+      sym (ap (λ (ys : List Expanded). length ys) t.whole),
+      length-append done (x ∷ rest),
+      ap
+          (λ (ys : List ℕ). length ys) t.is_frontier,
+    )
 
-pub ready : (s : State) (all done rest : List Expanded) (x : Expanded) (k : ℕ) (tree : List Node) (paths : List ℕ) (best : Option plans.Solved) (splits : ℕ) (frontier : List ℕ) (node : ℕ) → CanTake s all → IsTaking s all done (x ∷ rest) k tree paths best splits frontier → node ≡ get_or frontier k 0
+pub ready : (s : Search) (all done rest : List Expanded) (x : Expanded) (k : ℕ) (tree : List Node) (paths : List ℕ) (best : Option plans.Solved) (splits : ℕ)
+    (frontier : List ℕ) (node : ℕ)
+    → CanTake s all → IsTaking s all done (x ∷ rest) k tree paths best splits frontier → node ≡ get_or frontier k 0
     → IsReady tree k node x splits
 ready s all done rest x k tree paths best splits frontier node can t is =
-    let size : length all ≡ length done + suc (length rest) = omega (arith, sym (ap (λ (ys : List Expanded). length ys) t.whole), length-append done (x ∷ rest)) in
+    let size : length all ≡ length done + suc (length rest) =
+    omega (arith, sym (ap (λ (ys : List Expanded). length ys) t.whole), length-append done (x ∷ rest)) in
     let some : length done < length s.frontier = omega (arith, size, can.few) in
-    let (p, count) = placed_all s.tree [] s.frontier s.best s.best s.splits done can.placed (narrow_part all done (x ∷ rest) t.whole can.narrow) (omega (arith, some)) (omega (arith, size, can.room)) in
-    let at : node ≡ get_or s.frontier (length done) 0 = is ∙ ap (λ (ys : List ℕ). get_or ys k 0) t.is_frontier ∙ ap (λ (n : ℕ). get_or s.frontier n 0) t.count in
-    let next : drop (length done) s.frontier ≡ node ∷ drop (length done + 1) s.frontier = drop_more s.frontier (length done) 0 some ∙ ap (λ (n : ℕ). n ∷ drop (length done + 1) s.frontier) (sym at) in
+    let (p, count) =
+    placed_all s.tree [] s.frontier s.best s.best s.splits done can.placed (narrow_part all done (x ∷ rest) t.whole can.narrow) (omega (arith, some))
+    (omega (arith, size, can.room)) in
+    let at : node ≡ get_or s.frontier (length done) 0 =
+    is ∙ ap (λ (ys : List ℕ). get_or ys k 0) t.is_frontier ∙ ap (λ (n : ℕ). get_or s.frontier n 0) t.count in
+    let next : drop (length done) s.frontier ≡ node ∷ drop (length done + 1) s.frontier =
+    drop_more s.frontier (length done) 0 some ∙ ap (λ (n : ℕ). n ∷ drop (length done + 1) s.frontier) (sym at) in
     let L : List ℕ → Type 0 = λ ns. (j : ℕ) → times j (([] ++ replaced (length s.tree) done) ++ ns) ≡ left_at (taken s.tree s.frontier done) j in
     let r = first_left (taken s.tree s.frontier done) ([] ++ replaced (length s.tree) done) node (drop (length done + 1) s.frontier) (subst L next p.left) in
     let There : List Node → Type 0 = λ ns. node < length ns in
@@ -70,14 +88,21 @@ ready s all done rest x k tree paths best splits frontier node can t is =
       unspent = omega (arith, t.is_splits, few_splits done, size, can.room);
     }
 
-pub taking_more : (s : State) (all done rest : List Expanded) (x : Expanded) (k k' : ℕ) (tree tree' : List Node) (paths paths' : List ℕ) (best best' : Option plans.Solved) (splits splits' : ℕ) (frontier frontier' : List ℕ) (node : ℕ) → CanTake s all → IsTaking s all done (x ∷ rest) k tree paths best splits frontier
-    → node ≡ get_or frontier k 0 → k' ≡ k + 1 → tree' ≡ result_at tree node x → paths' ≡ paths ++ numbers_from (length tree) (child_count x) → best' ≡ better best x → splits' ≡ splits + split_count x → frontier' ≡ frontier
+pub taking_more : (s : Search) (all done rest : List Expanded) (x : Expanded) (k k' : ℕ) (tree tree' : List Node) (paths paths' : List ℕ)
+    (best best' : Option plans.Solved) (splits splits' : ℕ) (frontier frontier' : List ℕ) (node : ℕ)
+    → CanTake s all → IsTaking s all done (x ∷ rest) k tree paths best splits frontier
+    → node ≡ get_or frontier k 0 → k' ≡ k + 1 → tree' ≡ result_at tree node x → paths' ≡ paths ++ numbers_from (length tree) (child_count x)
+    → best' ≡ better best x → splits' ≡ splits + split_count x → frontier' ≡ frontier
     → IsTaking s all (done ++ x ∷ []) rest k' tree' paths' best' splits' frontier'
 taking_more s all done rest x k k' tree tree' paths paths' best best' splits splits' frontier frontier' node can t is ek et ep eb es ef =
-    let size : length all ≡ length done + suc (length rest) = omega (arith, sym (ap (λ (ys : List Expanded). length ys) t.whole), length-append done (x ∷ rest)) in
+    let size : length all ≡ length done + suc (length rest) =
+    omega (arith, sym (ap (λ (ys : List Expanded). length ys) t.whole), length-append done (x ∷ rest)) in
     let some : length done < length s.frontier = omega (arith, size, can.few) in
-    let (p, count) = placed_all s.tree [] s.frontier s.best s.best s.splits done can.placed (narrow_part all done (x ∷ rest) t.whole can.narrow) (omega (arith, some)) (omega (arith, size, can.room)) in
-    let at : node ≡ get_or s.frontier (length done) 0 = is ∙ ap (λ (ys : List ℕ). get_or ys k 0) t.is_frontier ∙ ap (λ (n : ℕ). get_or s.frontier n 0) t.count in
+    let (p, count) =
+    placed_all s.tree [] s.frontier s.best s.best s.splits done can.placed (narrow_part all done (x ∷ rest) t.whole can.narrow) (omega (arith, some))
+    (omega (arith, size, can.room)) in
+    let at : node ≡ get_or s.frontier (length done) 0 =
+    is ∙ ap (λ (ys : List ℕ). get_or ys k 0) t.is_frontier ∙ ap (λ (n : ℕ). get_or s.frontier n 0) t.count in
     let long : length tree ≡ length s.tree + total done = ap (λ (ns : List Node). length ns) t.is_tree ∙ count in
     record {
       whole = append_assoc done (x ∷ []) rest ∙ t.whole;
@@ -94,7 +119,9 @@ taking_more s all done rest x k k' tree tree' paths paths' best best' splits spl
     }
 
 -- all were taken
-pub taken_all : (s : State) (all done rest : List Expanded) (k : ℕ) (tree : List Node) (paths : List ℕ) (best : Option plans.Solved) (splits : ℕ) (frontier frontier' : List ℕ) → IsTaking s all done rest k tree paths best splits frontier → length rest ≡ 0 → frontier' ≡ paths ++ drop (length all) frontier
+pub taken_all : (s : Search) (all done rest : List Expanded) (k : ℕ) (tree : List Node) (paths : List ℕ) (best : Option plans.Solved) (splits : ℕ)
+    (frontier frontier' : List ℕ)
+    → IsTaking s all done rest k tree paths best splits frontier → length rest ≡ 0 → frontier' ≡ paths ++ drop (length all) frontier
     → placed_at tree frontier' best splits ≡ after s all
 taken_all s all done [] k tree paths best splits frontier frontier' t none is =
     let e : done ≡ all = sym (append-nil done) ∙ t.whole in

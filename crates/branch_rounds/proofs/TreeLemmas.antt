@@ -25,7 +25,8 @@ pub record Grows (old new : List Node) (i : ℕ) (node : Node) (count : ℕ) (lo
   pub fresh : (k : ℕ) → length old ≤ k → k < length new → node_at new k ≡ Left (Some low)
   pub children : children_of node ≡ numbers_from (length old) count
 
-pub grows_end : (old : List Node) (i : ℕ) (leaf : Node) → IsTree old → i < length old → IsLeft (node_at old i) → IsLeaf leaf → Grows old (set old i leaf) i leaf 0 []
+pub grows_end : (old : List Node) (i : ℕ) (leaf : Node) → IsTree old → i < length old → IsLeft (node_at old i) → IsLeaf leaf
+    → Grows old (set old i leaf) i leaf 0 []
 grows_end old i leaf tree lt left is_leaf = record {
   there = lt;
   left = left;
@@ -38,12 +39,14 @@ grows_end old i leaf tree lt left is_leaf = record {
   children = leaf_has_none leaf is_leaf;
 }
 
-pub grows_split : (old : List Node) (i : ℕ) (q : Question) (count : ℕ) (low : List Constraint) → IsTree old → i < length old → IsLeft (node_at old i) → count ≤ 6 → length old + count < 2 ^ 32
+pub grows_split : (old : List Node) (i : ℕ) (q : Question) (count : ℕ) (low : List Constraint) → IsTree old → i < length old → IsLeft (node_at old i)
+    → count ≤ 6 → length old + count < 2 ^ 32
     → Grows old (split_at old i q count low) i (Split q (numbers_from (length old) count)) count low
 grows_split old i q count low tree lt left few room =
     let s = Split q (numbers_from (length old) count) in
     let lefts : List Node = replicate count (Left (Some low)) in
-    let size : length (set old i s ++ lefts) ≡ length old + count = omega (arith, length-append (set old i s) lefts, length-set old i s, length-replicate count (Left (Some low))) in
+    let size : length (set old i s ++ lefts) ≡ length old + count =
+    omega (arith, length-append (set old i s) lefts, length-set old i s, length-replicate count (Left (Some low))) in
     record {
       there = lt;
       left = left;
@@ -51,7 +54,9 @@ grows_split old i q count low tree lt left few room =
       tree = split_is_tree old i q count low tree lt left few room;
       size = size;
       here = get_or_append_left (set old i s) lefts (Left None) i (omega (arith, lt, length-set old i s)) ∙ get_or-set_same old i s (Left None) lt;
-      kept = λ k ne below. get_or_append_left (set old i s) lefts (Left None) k (omega (arith, below, length-set old i s)) ∙ get_or-set_other old i k s (Left None) ne;
+      kept =
+          λ k ne below. get_or_append_left (set old i s) lefts (Left None) k (omega (arith, below, length-set old i s)) ∙ get_or-set_other old i k s
+          (Left None) ne;
       fresh = λ k from to.
           get_or-append_right (set old i s) lefts (length old) k (Left None) (length-set old i s) from
           ∙ get_or-replicate count (k - length old) (Left (Some low)) (Left None) (omega (arith, from, to, size));
@@ -60,7 +65,8 @@ grows_split old i q count low tree lt left few room =
 
 -- ---- paths
 
-pub path_kept : (old new : List Node) (i : ℕ) (node : Node) (count : ℕ) (low : List Constraint) (a : ℕ) (ds : List Decision) (j : ℕ) → Grows old new i node count low → Leads old a ds j → Leads new a ds j
+pub path_kept : (old new : List Node) (i : ℕ) (node : Node) (count : ℕ) (low : List Constraint) (a : ℕ) (ds : List Decision) (j : ℕ)
+    → Grows old new i node count low → Leads old a ds j → Leads new a ds j
 path_kept old new i node count low a [] j g e = e
 path_kept old new i node count low a (d ∷ ds) j g (k, b, rest) =
     (k, branches_kept old new i a d k g.left g.kept b, path_kept old new i node count low k ds j g rest)
@@ -80,7 +86,8 @@ left_is : (low : List Constraint) (n : Node) → n ≡ Left (Some low) → IsLef
 left_is low n e = let P : Node → Type 0 = λ m. IsLeft m in subst P (sym e) tt
 
 -- the decision at node i leads to a child that is left
-at_new : (old new : List Node) (i : ℕ) (node : Node) (count : ℕ) (low : List Constraint) (a : ℕ) (d : Decision) (ds : List Decision) (k j : ℕ) → Grows old new i node count low → a ≡ i → Branches new a d k → Leads new k ds j
+at_new : (old new : List Node) (i : ℕ) (node : Node) (count : ℕ) (low : List Constraint) (a : ℕ) (d : Decision) (ds : List Decision) (k j : ℕ)
+    → Grows old new i node count low → a ≡ i → Branches new a d k → Leads new k ds j
     → NewChild old i node count a (d ∷ ds) j
 at_new old new i node count low a d ds k j g e b rest =
     let asks : node ≡ Split d.question b.children = sym g.here ∙ sym (ap (λ (n : ℕ). node_at new n) e) ∙ b.split in
@@ -92,11 +99,14 @@ at_new old new i node count low a d ds k j g e b rest =
     let left = left_is low (node_at new k) (g.fresh k (omega (arith, at)) (omega (arith, at, below, g.size))) in
     ends ds rest asks below at left
   where
-    ends : (ds : List Decision) → Leads new k ds j → (asks : node ≡ Split d.question b.children) → d.child < count → k ≡ length old + d.child → IsLeft (node_at new k) → NewChild old i node count a (d ∷ ds) j
-    ends [] same asks below at left = record { before = []; last = d; is = refl; leads = e; children = b.children; asks = asks; child = below; at = omega (arith, at, same) }
+    ends : (ds : List Decision) → Leads new k ds j → (asks : node ≡ Split d.question b.children) → d.child < count → k ≡ length old + d.child
+        → IsLeft (node_at new k) → NewChild old i node count a (d ∷ ds) j
+    ends [] same asks below at left =
+        record { before = []; last = d; is = refl; leads = e; children = b.children; asks = asks; child = below; at = omega (arith, at, same) }
     ends (d' ∷ ds) (k', b', more) asks below at left = absurd (split_is_not_left (node_at new k) d' b'.children b'.split left)
 
-pub path_from : (old new : List Node) (i : ℕ) (node : Node) (count : ℕ) (low : List Constraint) (a : ℕ) (ds : List Decision) (j : ℕ) → Grows old new i node count low → a < length old → Leads new a ds j
+pub path_from : (old new : List Node) (i : ℕ) (node : Node) (count : ℕ) (low : List Constraint) (a : ℕ) (ds : List Decision) (j : ℕ)
+    → Grows old new i node count low → a < length old → Leads new a ds j
     → ((j < length old) × Leads old a ds j) ⊎ NewChild old i node count a ds j
 path_from old new i node count low a [] j g lt e = inl (omega (arith, lt, e), e)
 path_from old new i node count low a (d ∷ ds) j g lt (k, b, rest) =

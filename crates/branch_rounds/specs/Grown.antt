@@ -6,12 +6,12 @@ use Rattle.choice_tree.specs.declared.node.Node.{Node}
 use Rattle.choice_tree.specs.declared.node.Node.TheVariants as nodes
 use Rattle.choice_tree.specs.declared.node.Node.TheVariants.{Left}
 use Rattle.choice_tree.specs.Nodes.{node_at, IsPathTo, numbers_from, split_at}
-use Rattle.period_constraints.specs.Proves.{RefutesPeriod}
+use Rattle.path_constraints.specs.Proves.{RefutesPeriod}
 use Rattle.node_expand.specs.declared.solved.Solved as plans
 use Rattle.node_expand.specs.declared.expanded.Expanded.{Expanded}
 use Rattle.node_expand.specs.declared.expanded.Expanded.TheVariants.{Stuck, Closed, Solved, Split}
 use Rattle.node_expand.specs.Expansion.{IsExpansion}
-pub use Rattle.branch_rounds.specs.declared.state.State.{State}
+pub use Rattle.branch_rounds.specs.declared.state.Search.{Search}
 use Rattle.branch_rounds.specs.declared.outcome.Outcome.{Outcome}
 
 -- the tree with the expansion of the path to node i: a leaf, or a split whose children are left with its low
@@ -71,11 +71,11 @@ cap_of l None = l.max_period + 1
 cap_of l (Some best) = best.period
 
 -- the root alone is left
-abbrev pub start : State
+abbrev pub start : Search
 start = record { tree = Left None ∷ []; frontier = 0 ∷ []; best = None; splits = 0 }
 
 -- the state after the expansions of its first paths
-abbrev pub after : State → List Expanded → State
+abbrev pub after : Search → List Expanded → Search
 after s xs = record {
   tree = taken s.tree s.frontier xs;
   frontier = replaced (length s.tree) xs ++ drop (length xs) s.frontier;
@@ -84,27 +84,27 @@ after s xs = record {
 }
 
 -- how many paths a round expands
-abbrev pub round_size : ℕ → State → ℕ
+abbrev pub round_size : ℕ → Search → ℕ
 round_size budget s = min 64 (min (budget - s.splits) (length s.frontier))
 
 -- x is the expansion of path k of the frontier, under the cap at which the round begins
-pub record IsResult (l : LineData) (s : State) (k : ℕ) (x : Expanded) : Type 0 where
+pub record IsResult (l : LineData) (s : Search) (k : ℕ) (x : Expanded) : Type 0 where
   pub path : List Decision
   pub leads : IsPathTo s.tree (get_or s.frontier k 0) path
   pub expansion : IsExpansion l path (cap_of l s.best) x
 
 -- while paths and splits are left, a round expands the first paths
-pub record IsRound (l : LineData) (budget : ℕ) (s : State) (xs : List Expanded) : Type 0 where
+pub record IsRound (l : LineData) (budget : ℕ) (s : Search) (xs : List Expanded) : Type 0 where
   pub some : 0 < length s.frontier
   pub unspent : s.splits < budget
   pub count : length xs ≡ round_size budget s
   pub each : (k : ℕ) (x : Expanded) → k < length xs → x ≡ get_or xs k x → IsResult l s k x
 
 -- so many rounds lead from the root to the state
-abbrev pub IsReached : LineData → ℕ → ℕ → State → Type 0
+abbrev pub IsReached : LineData → ℕ → ℕ → Search → Type 0
 IsReached l budget zero s = s ≡ start
 IsReached l budget (suc rounds) s =
-    (before : State) × (xs : List Expanded) × IsReached l budget rounds before × IsRound l budget before xs × (s ≡ after before xs)
+    (before : Search) × (xs : List Expanded) × IsReached l budget rounds before × IsRound l budget before xs × (s ≡ after before xs)
 
 -- the low of a node that is left, with the sums of its constraints at the path, refutes the period
 abbrev pub LowRefutes : LineData → List Decision → Node → ℕ → Type 0
@@ -116,7 +116,7 @@ LowRefutes l path (Left None) period = ⊥
 LowRefutes l path (Left (Some low)) period = RefutesPeriod l path period low
 
 -- the lows of all paths left refute every period below the bound; it is the cap, or the low of some path left doesn't refute it
-pub record IsBound (l : LineData) (s : State) (bound : ℕ) : Type 0 where
+pub record IsBound (l : LineData) (s : Search) (bound : ℕ) : Type 0 where
   pub some : 1 ≤ bound
   pub most : bound ≤ cap_of l s.best
   pub refuted : (k : ℕ) (path : List Decision) (period : ℕ) → k < length s.frontier → IsPathTo s.tree (get_or s.frontier k 0) path
@@ -128,7 +128,7 @@ pub record IsBound (l : LineData) (s : State) (bound : ℕ) : Type 0 where
 -- the outcome of the rounds: they end where no path is left or the budget is spent
 pub record IsGrown (l : LineData) (budget : ℕ) (o : Outcome) : Type 0 where
   pub rounds : ℕ
-  pub end : State
+  pub end : Search
   pub reached : IsReached l budget rounds end
   pub done : (length end.frontier ≡ 0) ⊎ (budget ≤ end.splits)
   pub tree : o.tree ≡ end.tree

@@ -1,20 +1,21 @@
 -- What holds of every state that the rounds reach.
 use Rattle.std.specs.Prelude.{◌≡◌, ℕ, ◌+◌, ◌*◌, ◌<◌, ◌≤◌, ◌==◌, nat_lt, if◌then◌else◌, List, [], ◌∷◌, length, get_or, IfSome}
-use Rattle.hoist_base.specs.LineData.{LineData}
+use Rattle.hoist_base.specs.LineData.{LineData, is_single}
+use Rattle.hoist_base.specs.Valid.{IsLine}
+use Rattle.longest_path.specs.Bounds.{IsCap}
 use Rattle.choice_tree.specs.declared.question.Decision.{Decision}
 use Rattle.choice_tree.specs.declared.node.Node.{Node}
 use Rattle.choice_tree.specs.declared.node.Node.TheVariants.{Split, Closed, Stuck, Solved, Left}
 use Rattle.choice_tree.specs.Nodes.{node_at, IsPathTo}
 use Rattle.choice_tree.specs.Trees.{IsTree}
-use Rattle.period_constraints.specs.Questions.{FitsPath}
-use Rattle.period_constraints.specs.Proves.{IsClosedWalk, Shows}
+use Rattle.path_constraints.specs.Questions.{FitsPath}
+use Rattle.path_constraints.specs.Proves.{IsClosedWalk, Shows}
 use Rattle.node_expand.specs.declared.expanded.Expanded.{Expanded}
 use Rattle.node_expand.specs.Expansion.{IsExpansion}
 use Rattle.node_expand.specs.Plannable.{IsPlannable}
 use Rattle.node_expand.specs.Shown as expansions
 use Rattle.answer_text.specs.Nodes.{IsNodeText}
-use Rattle.answer_text.specs.Answers.{is_single}
-use Rattle.branch_rounds.specs.Grown.{State, cap_of, child_count}
+use Rattle.branch_rounds.specs.Grown.{Search, cap_of, child_count}
 use Rattle.branch_rounds.specs.Counted.{split_nodes}
 
 -- how often a number stands in a list
@@ -42,7 +43,7 @@ shown_below (Solved low) cap = cap
 shown_below (Left low) cap = 1
 
 -- the frontier is what is left of the tree, the splits are counted, and bound their sizes
-pub record IsPlaced (s : State) : Type 0 where
+pub record IsPlaced (s : Search) : Type 0 where
   pub tree : IsTree s.tree
   pub nodes : length s.tree ≤ 1 + 6 * s.splits
   pub paths : length s.frontier ≤ 1 + 6 * s.splits
@@ -50,7 +51,7 @@ pub record IsPlaced (s : State) : Type 0 where
   -- each node that is left stands in the frontier once, and nothing else does
   pub left : (j : ℕ) → times j s.frontier ≡ left_at s.tree j
 
-pub record IsKept (l : LineData) (s : State) : Type 0 where
+pub record IsKept (l : LineData) (s : Search) : Type 0 where
   pub placed : IsPlaced s
   pub fits : (i : ℕ) (path : List Decision) → IsPathTo s.tree i path → FitsPath l path × (length path ≤ s.splits)
   pub shows : (i : ℕ) (path : List Decision) → i < length s.tree → IsPathTo s.tree i path
@@ -58,20 +59,31 @@ pub record IsKept (l : LineData) (s : State) : Type 0 where
   pub texts : (i : ℕ) → i < length s.tree → IsNodeText (is_single l) (node_at s.tree i)
   pub best : IfSome s.best (λ b. IsPlannable l b × (b.period ≤ l.max_period))
 
+-- a path of a line that can be expanded under a cap
+pub record CanExpand (l : LineData) (path : List Decision) (cap : ℕ) : Type 0 where
+  pub valid : IsLine l
+  pub fits : FitsPath l path
+  pub short : length path ≤ 20000
+  pub range : IsCap cap
+
 -- an expansion under a cap, with all that it shows
 pub record IsShown (l : LineData) (path : List Decision) (cap : ℕ) (x : Expanded) : Type 0 where
   pub expansion : IsExpansion l path cap x
   pub shows : expansions.Shows l path cap x
   pub few : expansions.HasShortWalks x
 
+-- the paths to the first nodes of the frontier
+abbrev pub ArePaths : Search → List (List Decision) → Type 0
+ArePaths s paths = (k : ℕ) (path : List Decision) → k < length paths → path ≡ get_or paths k path → IsPathTo s.tree (get_or s.frontier k 0) path
+
 -- x is the expansion of path k of the state
-pub record IsAnswer (l : LineData) (s : State) (k : ℕ) (x : Expanded) : Type 0 where
+pub record IsAnswer (l : LineData) (s : Search) (k : ℕ) (x : Expanded) : Type 0 where
   pub path : List Decision
   pub leads : IsPathTo s.tree (get_or s.frontier k 0) path
   pub shown : IsShown l path (cap_of l s.best) x
 
 -- the expansions of the first paths of the state
-abbrev pub AreAnswers : LineData → State → List Expanded → Type 0
+abbrev pub AreAnswers : LineData → Search → List Expanded → Type 0
 AreAnswers l s xs = (k : ℕ) (x : Expanded) → k < length xs → x ≡ get_or xs k x → IsAnswer l s k x
 
 -- none has more than six children

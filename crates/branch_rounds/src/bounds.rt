@@ -1,31 +1,25 @@
 // The bound of a search: what the walks of its paths left refute.
 ghost use Rattle.std.specs.Prelude.{◌≡◌, ◌⊎◌, ℕ, ◌≤◌, ◌<◌, ◌<ℤ◌, ◌↔◌, pos, length, get_or, unsigned_abs, IsTrue, IfOk, IfSome};
 ghost use Rattle.hoist_base.specs.Valid.{IsLine};
-ghost use Rattle.longest_path.specs.System.{Refutes};
+ghost use Rattle.longest_path.specs.Bounds.{IsPeriod};
+ghost use Rattle.cycle_walk.specs.Refuting.{AreSmall};
 ghost use Rattle.choice_tree.specs.declared.constraint.Constraint.{Constraint as Name};
-ghost use Rattle.period_constraints.specs.Questions.{FitsPath};
-ghost use Rattle.period_constraints.specs.Constraints.{IsConstraint, arc_of};
-ghost use Rattle.period_constraints.specs.Proves.{sum_w, sum_q};
+ghost use Rattle.path_constraints.specs.Questions.{FitsPath};
+ghost use Rattle.path_constraints.specs.Constraints.{IsConstraint, arc_of};
+ghost use Rattle.path_constraints.specs.Proves.{sum_w, sum_q};
 ghost use Rattle.branch_rounds.specs.Grown.{cap_of, LowRefutes, IsBound};
 ghost use Rattle.branch_rounds.specs.Kept.{IsKept, HasGoodLow};
 
-use crate::state::State;
+use crate::state::Search;
 use choice_tree::{Constraint, Decision, Node};
-use cycle_walk::refutes;
+use cycle_walk::Sums;
 use hoist_base::Line;
 use longest_path::Arc;
-use period_constraints::constraint_of;
+use path_constraints::constraint_of;
 use std::alloc::{AllocError, Global};
 
-// The sums of a walk: w in ticks, q in periods.
-#[derive(Clone, Copy)]
-struct Sums {
-    w: i64,
-    q: i64,
-}
-
 // A constraint of a path by its name.
-fn named(line: &Line, path: &[Decision], name: Constraint) -> Arc
+fn constraint_named(line: &Line, path: &[Decision], name: Constraint) -> Arc
     requires fits { FitsPath line.now path.now }
     requires named { IsConstraint line.now path.now name }
     ensures value { result ≡ arc_of line.now path.now name }
@@ -41,62 +35,35 @@ fn sums_of(line: &Line, path: &[Decision], names: &[Constraint]) -> Sums
     requires few { length names.now ≤ 1000 }
     ensures w { result.w ≡ sum_w line.now path.now names.now }
     ensures q { result.q ≡ sum_q line.now path.now names.now }
-    ensures small { (unsigned_abs result.w ≤ 10000000000) × (unsigned_abs result.q ≤ 1000000000000) }
+    ensures small { AreSmall result }
 {
     let mut w = 0;
     let mut q = 0;
     for i in 0..names.len() {
-        let arc = named(line, path, names[i]);
+        let arc = constraint_named(line, path, names[i]);
         w += arc.w;
         q += arc.q;
     }
     Sums { w, q }
 }
 
-#[inline]
-fn falls(q: i64) -> bool
-    ensures { IsTrue result ↔ (q <ℤ pos 0) }
-{
-    q < 0
-}
-
-// The least period from 1 on that a walk with these sums doesn't refute, or the cap where that is less.
-fn least_kept(sums: Sums, cap: u32) -> u32
-    requires w { unsigned_abs sums.w ≤ 10000000000 }
-    requires q { unsigned_abs sums.q ≤ 1000000000000 }
-    requires cap { (1 ≤ cap) × (cap ≤ 20001) }
-    ensures some { 1 ≤ result }
-    ensures most { result ≤ cap }
-    ensures refuted { (t : ℕ) → 1 ≤ t → t < result → Refutes sums.w sums.q t }
-    ensures met { (result ≡ cap) ⊎ (Refutes sums.w sums.q result → ⊥) }
-{
-    if !refutes(sums.w, sums.q, 1) {
-        return 1;
-    }
-    if !falls(sums.q) {
-        return cap;
-    }
-    let kept = sums.w.unsigned_abs().div_ceil(sums.q.unsigned_abs());
-    kept.min(u64::from(cap)) as u32
-}
-
 // The least period from 1 on that the low of a node left doesn't refute, or the cap where that is less.
 fn bound_at(line: &Line, path: &[Decision], node: &Node, cap: u32) -> u32
     requires fits { FitsPath line.now path.now }
     requires low { HasGoodLow line.now path.now node.now }
-    requires cap { (1 ≤ cap) × (cap ≤ 20001) }
+    requires cap { IsPeriod cap }
     ensures some { 1 ≤ result }
     ensures most { result ≤ cap }
     ensures refuted { (t : ℕ) → 1 ≤ t → t < result → LowRefutes line.now path.now node.now t }
-    ensures met { (result ≡ cap) ⊎ (LowRefutes line.now path.now node.now result → ⊥) }
+    ensures kept { result < cap → LowRefutes line.now path.now node.now result → ⊥ }
 {
     match node {
-        Node::Left { low: Some(low) } => least_kept(sums_of(line, path, low.as_slice()), cap),
+        Node::Left { low: Some(low) } => sums_of(line, path, low.as_slice()).least_kept(cap),
         _ => 1,
     }
 }
 
-impl State {
+impl Search {
     /// The bound: the least period that the low of some path left doesn't refute, or the cap where that is less.
     pub(crate) fn bound(&self, alloc: Global, line: &Line) -> Result<u32, AllocError>
         requires { IsKept line.now self.now }

@@ -2,15 +2,18 @@
 #![tactic(auto)]
 
 mod bounds;
+mod expanding;
 mod frontier;
 pub mod laws;
 mod outcome;
+mod path;
 mod rounds;
 mod searching;
 mod state;
 mod taking;
 #[cfg(test)]
 mod tests;
+mod workers;
 
 pub use outcome::Outcome;
 pub use searching::{search, search_alone};

@@ -12,21 +12,21 @@ use std::alloc::{AllocError, Global};
 /// A search between two rounds: the tree, the paths that are left, the solved path of the least period, and how many
 /// splits were made.
 #[derive(Debug, Drop)]
-pub(crate) struct State {
+pub(crate) struct Search {
     pub(crate) tree: Tree,
     pub(crate) frontier: Frontier,
     pub(crate) best: Option<Solved>,
     pub(crate) splits: u32,
 }
 
-impl State {
+impl Search {
     /// The root alone is left.
-    pub(crate) fn new(alloc: Global) -> Result<State, AllocError>
+    pub(crate) fn new(alloc: Global) -> Result<Search, AllocError>
         ensures { IfOk result (λ state. state ≡ start) }
     {
         let tree = Tree::new(alloc)?;
         let frontier = Frontier::of_root(alloc)?;
-        Ok(State {
+        Ok(Search {
             tree,
             frontier,
             best: None,

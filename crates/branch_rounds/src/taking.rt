@@ -4,12 +4,12 @@ ghost use Rattle.choice_tree.specs.Nodes.{node_at, IsLeft, numbers_from, split_a
 ghost use Rattle.branch_rounds.specs.Grown.{result_at, child_count, split_count, less, better, after};
 ghost use Rattle.branch_rounds.specs.Kept.{IsPlaced, AreNarrow};
 
-use crate::state::State;
+use crate::state::Search;
 use choice_tree::{Node, Proof, Question};
 use node_expand::{Expanded, Solved};
 use std::alloc::{AllocError, Global};
 
-impl State {
+impl Search {
     // The node becomes a split. Its children are left with the low, and put behind the others.
     fn split(
         &mut self,
@@ -40,7 +40,7 @@ impl State {
     }
 
     // Keeps the solved path where it is the first, or has a smaller period.
-    fn keep(&mut self, solved: Solved)
+    fn keep_better(&mut self, solved: Solved)
         ensures best { self.new.best ≡ Some (less self.old.best solved) }
         ensures tree { self.new.tree ≡ self.old.tree }
         ensures splits { self.new.splits ≡ self.old.splits }
@@ -84,7 +84,7 @@ impl State {
             }
             Expanded::Solved { solved, low } => {
                 self.tree.end(node, Node::Solved { low });
-                self.keep(solved);
+                self.keep_better(solved);
                 Ok(())
             }
             Expanded::Split {

@@ -5,7 +5,7 @@ use Rattle.line_model.specs.Legal.{IsLegal}
 use Rattle.timetable.specs.TimetableData.{TimetableData, timetable_of}
 use Rattle.choice_tree.specs.declared.node.Node.{Node}
 use Rattle.choice_tree.specs.declared.node.Node.TheVariants as nodes
-use Rattle.period_constraints.specs.Proves.{Proves}
+use Rattle.path_constraints.specs.Proves.{Proves}
 use Rattle.node_expand.specs.declared.solved.Solved.{Solved}
 use Rattle.branch_rounds.specs.Grown.{cap_of}
 use Rattle.branch_rounds.specs.Counted as search

@@ -6,7 +6,7 @@ use Rattle.line_model.specs.Legal.{IsLegal, NoneBelow}
 use Rattle.line_laws.proofs.RunLemmas.{runs_keep_windows}
 use Rattle.timetable.specs.TimetableData.{TimetableData, timetable_of}
 use Rattle.choice_tree.specs.declared.node.Node.{Node}
-use Rattle.period_constraints.specs.Proves.{Proves}
+use Rattle.path_constraints.specs.Proves.{Proves}
 use Rattle.node_expand.specs.declared.solved.Solved.{Solved}
 use Rattle.branch_rounds.specs.declared.outcome.Outcome.{Outcome}
 use Rattle.branch_rounds.specs.Grown.{cap_of}

@@ -11,11 +11,11 @@ use Rattle.timetable.specs.TimetableData.{TimetableData, timetable_of, FitsLine,
 use Rattle.path_envelope.specs.Duties.{duties}
 use Rattle.path_envelope.specs.Envelope.{IsLowestAt, AreLowest}
 use Rattle.choice_tree.specs.declared.node.Node.{Node}
-use Rattle.period_constraints.specs.Ticks.{tick_at}
+use Rattle.path_constraints.specs.Ticks.{tick_at}
 use Rattle.node_expand.specs.declared.solved.Solved.{Solved}
 use Rattle.node_expand.proofs.FloorLemmas.{carrier_there, node_is, node_move}
 use Rattle.branch_rounds.specs.declared.outcome.Outcome.{Outcome}
-use Rattle.branch_rounds.proofs.ExpansionLemmas.{same_numbers}
+use Rattle.branch_rounds.specs.ExpansionLemmas.{same_numbers}
 use Rattle.branch_rounds.proofs.OneLemmas.{search_is_one}
 use Rattle.planning.specs.Planned.{IsPlan}
 use Rattle.answer_text.specs.declared.answer.Verdict.{Verdict}

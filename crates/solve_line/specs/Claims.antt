@@ -4,7 +4,7 @@ use Rattle.hoist_base.specs.LineData.{LineData}
 use Rattle.line_model.specs.Legal.{IsLegal, IsLeast, NoneBelow}
 use Rattle.line_model.specs.Run.{KeepsWindows}
 use Rattle.timetable.specs.TimetableData.{TimetableData, timetable_of}
-use Rattle.period_constraints.specs.Proves.{Proves}
+use Rattle.path_constraints.specs.Proves.{Proves}
 use Rattle.answer_text.specs.declared.answer.Verdict.{Verdict}
 use Rattle.answer_text.specs.declared.answer.Verdict.TheVariants.{Optimal, Nothing, Unfinished}
 use Rattle.answer_text.specs.declared.answer.Answer.{Answer}

@@ -1,6 +1,6 @@
 use Rattle.std.proofs.Common.{List, subst, sym, rules}
 use Rattle.choice_tree.specs.declared.constraint.Constraint.{Constraint}
-use Rattle.period_constraints.specs.Proves.{IsClosedWalk}
+use Rattle.path_constraints.specs.Proves.{IsClosedWalk}
 use Rattle.branch_rounds.proofs.BoundLemmas.{closed_names}
 use Rattle.branch_rounds.proofs.bounds.bound_at.Goals as goal
 

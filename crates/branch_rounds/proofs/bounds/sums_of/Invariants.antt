@@ -1,6 +1,6 @@
 use Rattle.std.proofs.Common.{◌≡◌, ◌*◌, ◌≤◌, drop, ◌+ℤ◌}
 use Rattle.std.specs.Prelude.{unsigned_abs}
-use Rattle.period_constraints.specs.Proves.{sum_w, sum_q}
+use Rattle.path_constraints.specs.Proves.{sum_w, sum_q}
 use Rattle.branch_rounds.proofs.bounds.sums_of.Given as goal
 
 abbrev pub invariant-loop-i : goal.invariant-loop-i

@@ -1,7 +1,7 @@
 use Rattle.std.proofs.Common.{⊎_elim, inl, inr, ◌⊎◌, ◌≡◌, ◌≤◌, length, suc, subst, sym, refl, ◌∙◌, arith}
 use Rattle.std.proofs.lemmas.Bool.{cases_lt}
-use Rattle.period_constraints.proofs.CoverTreeLemmas.{proof_bounds}
-use Rattle.branch_rounds.specs.Grown.{State}
+use Rattle.path_constraints.proofs.CoverTreeLemmas.{proof_bounds}
+use Rattle.branch_rounds.specs.Grown.{Search}
 use Rattle.branch_rounds.specs.Kept.{IsKept}
 use Rattle.branch_rounds.proofs.RoundLemmas.{cap_range}
 use Rattle.branch_rounds.proofs.OutcomeLemmas.{kept_start, proves, bound_whole, none_left, some_left}
@@ -10,8 +10,8 @@ use Rattle.branch_rounds.proofs.searching.grow.Goals as goal
 pub loop-state-init : goal.loop-state-init
 loop-state-init g c =
     let e = c.in_ok-state.ensures in
-    let K : State → Type 0 = λ s. IsKept c.args.line.now s in
-    let B : State → Type 0 = λ s. s.splits ≤ c.args.budget in
+    let K : Search → Type 0 = λ s. IsKept c.args.line.now s in
+    let B : Search → Type 0 = λ s. s.splits ≤ c.args.budget in
     record {
       expander = c.in_ok-expander.ensures;
       kept = subst K (sym e) (kept_start c.args.line.now);
@@ -39,7 +39,8 @@ returns g c =
     let left : c.len-left.result ≡ length s.frontier = c.len-left.ensures in
     let done : (length s.frontier ≡ 0) ⊎ (c.args.budget ≤ s.splits) =
     ⊎_elim
-    (λ some. ⊎_elim (λ unspent. absurd (let t = c.goes_on.ensures.1 (some, unspent) in let f = c.loop-state-test.false in cc)) (λ le. inr le) (cases_lt s.splits c.args.budget))
+    (λ some. ⊎_elim (λ unspent. absurd (let t = c.goes_on.ensures.1 (some, unspent) in let f = c.loop-state-test.false in cc)) (λ le. inr le)
+    (cases_lt s.splits c.args.budget))
     (λ none. inl (omega (arith, none)))
     (cases_lt 0 (length s.frontier)) in
     let proof = proves l s c.in_ok-bound.bound v.kept e.bound in

@@ -1,0 +1,110 @@
+// Several workers who expand the paths of a round.
+ghost use Rattle.std.specs.Prelude.{◌≡◌, ◌≤◌, ◌<◌, ◌^◌, length, All, IfOk, OnOk};
+ghost use Rattle.worker_pool.specs.Pool.{AreAnswers as AreAnswersOf};
+ghost use Rattle.hoist_base.specs.Valid.{IsLine};
+ghost use Rattle.branch_rounds.specs.Kept.{CanExpand, IsShown, IsKept, AreAnswers};
+
+use crate::expanding::Expanding;
+use crate::path::Path;
+use crate::state::Search;
+use claim_board::Board;
+use hoist_base::Line;
+use longest_path::System;
+use node_expand::{Expanded, Expander};
+use outside::Gate;
+use path_constraints::base_of;
+use std::alloc::{AllocError, Global};
+use std::marker::Model;
+use std::thread::Threads;
+use worker_pool::run;
+
+/// 1 to 64 workers of one line, seen as that line. `base` is the line's system before any decision. Where one worker is
+/// enough for a round, that is `expander`, and no thread is started.
+#[derive(Drop)]
+pub(crate) struct Workers {
+    most: u32,
+    base: System,
+    expander: Expander,
+}
+
+impl Model for Workers {
+    ghost use Rattle.std.specs.Prelude.{◌≡◌, ◌≤◌, []};
+    ghost use Rattle.hoist_base.specs.LineData.{LineData};
+    ghost use Rattle.path_constraints.specs.Places.{system_below};
+
+    ghost Value = { LineData };
+
+    ghost view = { λ w. w.expander };
+
+    ghost invariant = { λ w. (w.base ≡ system_below w.expander []) × (1 ≤ w.most) × (w.most ≤ 64) };
+}
+
+// The expansions of some paths, in the order of the paths, by workers at a board of their own.
+fn expand_at_once<R: Threads + Sync, G: Gate>(
+    rt: &R,
+    alloc: Global,
+    work: &Expanding<'_>,
+    paths: &[Path],
+    workers: u32,
+    gate: &G,
+) -> Result<Vec<Expanded>, AllocError>
+    requires workers { (1 ≤ workers) × (workers ≤ 64) }
+    requires few { length paths.now < 2 ^ 32 }
+    requires can { All (λ path. CanExpand work.now.line.now path work.now.cap) paths.now }
+    ensures { IfOk result (λ xs. AreAnswersOf (λ path x. IsShown work.now.line.now path work.now.cap x) paths.now xs.items) }
+{
+    let (board, mut seat) = Board::new(alloc, paths.len() as u32, workers)?;
+    let expansions = run(rt, alloc, &board, &mut seat, work, paths, workers, gate);
+    board.close(seat);
+    expansions
+}
+
+impl Workers {
+    /// So many workers of a line at most.
+    pub(crate) fn new(alloc: Global, line: &Line, most: u32) -> Result<Workers, AllocError>
+        requires { (1 ≤ most) × (most ≤ 64) }
+        ensures { IfOk result (λ workers. workers ≡ line.now) }
+    {
+        let base = base_of(alloc, line)?;
+        let expander = Expander::new(alloc, line, &base)?;
+        Ok(Workers {
+            most,
+            base,
+            expander,
+        })
+    }
+
+    /// The expansions of the first paths, in the order of the paths, under the cap of this moment. There are no more
+    /// workers than paths. Each path passes the gate by its number within the round.
+    pub(crate) fn expand_first<R: Threads + Sync, G: Gate>(
+        &mut self,
+        rt: &R,
+        alloc: Global,
+        line: &Line,
+        search: &Search,
+        count: usize,
+        gate: &G,
+    ) -> Result<Vec<Expanded>, AllocError>
+        requires line { self.old ≡ line.now }
+        requires kept { IsKept line.now search.now }
+        requires count { count ≤ length search.now.frontier }
+        requires short { search.now.splits ≤ 20000 }
+        ensures same { self.new ≡ self.old }
+        ensures count { IfOk result (λ xs. length xs.items ≡ count) }
+        ensures answers { IfOk result (λ xs. AreAnswers line.now search.now xs.items) }
+        ensures valid { IsLine line.now }
+    {
+        let workers = (self.most as usize).min(count) as u32;
+        if workers <= 1 {
+            return search.expand_in_turn(alloc, line, &mut self.expander, count, gate);
+        }
+        let cap = search.cap(line);
+        let paths = search.first_paths(alloc, count)?;
+        let work = Expanding {
+            line,
+            base: &self.base,
+            cap,
+        };
+        expand_at_once(rt, alloc, &work, paths.as_slice(), workers, gate)
+    }
+}
