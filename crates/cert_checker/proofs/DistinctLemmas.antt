@@ -11,37 +11,11 @@ use Rattle.choice_tree.specs.declared.node.Node.{Node}
 use Rattle.choice_tree.specs.declared.node.Node.TheVariants.{Split, Closed, Stuck, Solved, Left}
 use Rattle.choice_tree.specs.Nodes.{node_at, children_of, IsChild, Branches, Leads, IsPathTo}
 use Rattle.choice_tree.specs.Trees.{IsTree, preorder_below, preorder}
+use Rattle.choice_tree.proofs.OrderLemmas.{below, below_step}
 use Rattle.choice_tree.proofs.PathLemmas.{branch_later, one_path}
 use Rattle.longest_path.proofs.Walks.{pigeonhole}
-use Rattle.period_constraints.proofs.CoverListLemmas.{contains_first, contains_rest, contains_cases, contains_flat_map}
+use Rattle.list_facts.proofs.Elements.{contains_first, contains_rest, contains_cases, contains_flat_map}
 use Rattle.answer_text.proofs.OrderLemmas.{preorder_there}
-
--- ---- all that is below a node, at full depth
-
-flat_map_same : (F G : ℕ → List ℕ) (xs : List ℕ) → ((m : ℕ) → m < length xs → F (get_or xs m 0) ≡ G (get_or xs m 0)) → flat_map F xs ≡ flat_map G xs
-flat_map_same F G [] h = refl
-flat_map_same F G (x ∷ xs) h =
-    let e : F x ≡ G x = h 0 (omega arith) in
-    let r : flat_map F xs ≡ flat_map G xs = flat_map_same F G xs (λ m lt. h (suc m) (omega arith)) in
-    ap (λ (ys : List ℕ). ys ++ flat_map F xs) e ∙ ap (λ (ys : List ℕ). G x ++ ys) r
-
--- each depth that is enough gives the same order
-enough : (nodes : List Node) → IsTree nodes → (f g i : ℕ) → i < length nodes → length nodes ≤ f + i → length nodes ≤ g + i → preorder_below f nodes i ≡ preorder_below g nodes i
-enough nodes tree zero g i lt p q = absurd (omega arith)
-enough nodes tree (suc f) zero i lt p q = absurd (omega arith)
-enough nodes tree (suc f) (suc g) i lt p q =
-    let cs = children_of (node_at nodes i) in
-    ap (λ (xs : List ℕ). i ∷ xs)
-    (flat_map_same (preorder_below f nodes) (preorder_below g nodes) cs
-    (λ m h.
-    let c = tree.later i m (get_or cs m 0) (record { there = h; child = refl }) in
-    enough nodes tree f g (get_or cs m 0) c.1 (omega (arith, c.0, p)) (omega (arith, c.0, q))))
-
-abbrev pub below : List Node → ℕ → List ℕ
-below nodes i = preorder_below (length nodes) nodes i
-
-pub below_step : (nodes : List Node) → IsTree nodes → (i : ℕ) → i < length nodes → below nodes i ≡ i ∷ flat_map (below nodes) (children_of (node_at nodes i))
-below_step nodes tree i lt = enough nodes tree (length nodes) (suc (length nodes)) i lt (omega arith) (omega arith)
 
 -- ---- each node with a path is there
 
@@ -102,8 +76,11 @@ IsRow nodes i question m cs = (k : ℕ) → k < length cs → Branches nodes i (
 
 -- a node branches by one question
 whole_row : (nodes : List Node) (i : ℕ) (node : Node) → node_at nodes i ≡ node → (question : Question) × IsRow nodes i question 0 (children_of node)
-whole_row nodes i (Split question children) e =
-    (question, λ k lt. let z : 0 + k ≡ k = omega arith in record { children = children; split = e; there = omega (arith, lt); child = ap (λ (n : ℕ). get_or children n 0) z })
+whole_row nodes i (Split question children) e = (
+  question,
+  λ k lt. let z : 0 + k ≡ k = omega arith in
+      record { children = children; split = e; there = omega (arith, lt); child = ap (λ (n : ℕ). get_or children n 0) z },
+)
 whole_row nodes i (Closed low high) e = (Choose (record { carrier = 0; stage = 0 }), λ k lt. absurd (omega (arith, lt)))
 whole_row nodes i (Stuck m) e = (Choose (record { carrier = 0; stage = 0 }), λ k lt. absurd (omega (arith, lt)))
 whole_row nodes i (Solved low) e = (Choose (record { carrier = 0; stage = 0 }), λ k lt. absurd (omega (arith, lt)))
@@ -141,7 +118,8 @@ same_child : (d d' : Decision) (ds ds' : List Decision) → d ∷ ds ≡ d' ∷ 
 same_child d d' ds ds' e = let same : d ≡ d' = cc in ap (λ (x : Decision). x.child) same
 
 -- two children lead to different nodes
-apart : (nodes : List Node) → IsTree nodes → (i j m n c c' : ℕ) (p : List Decision) (question : Question) (depth : ℕ) → IsPathTo nodes i p → Branches nodes i (record { question = question; child = m }) c → Branches nodes i (record { question = question; child = n }) c'
+apart : (nodes : List Node) → IsTree nodes → (i j m n c c' : ℕ) (p : List Decision) (question : Question) (depth : ℕ) → IsPathTo nodes i p
+    → Branches nodes i (record { question = question; child = m }) c → Branches nodes i (record { question = question; child = n }) c'
     → Contains (preorder_below depth nodes c) j → Contains (preorder_below depth nodes c') j → m ≡ n
 apart nodes tree i j m n c c' p question depth lead b b' in_c in_c' =
     let first = leads_to nodes depth c j in_c in
@@ -153,14 +131,16 @@ apart nodes tree i j m n c c' p question depth lead b b' in_c in_c' =
     same_child d d' first.0 second.0 (cancel p (d ∷ first.0) (d' ∷ second.0) (one_path nodes j (p ++ d ∷ first.0) (p ++ d' ∷ second.0) tree long long'))
 
 -- no node is below itself
-not_below : (nodes : List Node) → IsTree nodes → (i c : ℕ) (p : List Decision) (d : Decision) (depth : ℕ) → IsPathTo nodes i p → Branches nodes i d c → Contains (preorder_below depth nodes c) i → ⊥
+not_below : (nodes : List Node) → IsTree nodes → (i c : ℕ) (p : List Decision) (d : Decision) (depth : ℕ) → IsPathTo nodes i p → Branches nodes i d c
+    → Contains (preorder_below depth nodes c) i → ⊥
 not_below nodes tree i c p d depth lead b in_c =
     let rest = leads_to nodes depth c i in_c in
     let long = leads-append nodes 0 i i p (d ∷ rest.0) lead (c, b, rest.1) in
     let same = one_path nodes i p (p ++ d ∷ rest.0) tree lead long in
     omega (arith, ap (λ (xs : List Decision). length xs) same, length-append p (d ∷ rest.0))
 
-mutual_row : (nodes : List Node) → IsTree nodes → (i m : ℕ) (p : List Decision) (question : Question) (depth : ℕ) (cs : List ℕ) → IsPathTo nodes i p → IsRow nodes i question m cs
+mutual_row : (nodes : List Node) → IsTree nodes → (i m : ℕ) (p : List Decision) (question : Question) (depth : ℕ) (cs : List ℕ) → IsPathTo nodes i p
+    → IsRow nodes i question m cs
     → ((c : ℕ) (q : List Decision) → IsPathTo nodes c q → AreDistinct (preorder_below depth nodes c)) → AreDistinct (flat_map (preorder_below depth nodes) cs)
 mutual_row nodes tree i m p question depth [] lead row each = λ j k lt in_it e. omega (arith, in_it)
 mutual_row nodes tree i m p question depth (c ∷ cs) lead row each =
@@ -192,7 +172,8 @@ preorder_short nodes tree =
     (λ long.
     let distinct = distinct_below nodes tree (length nodes) 0 [] refl in
     let f : ℕ → ℕ = λ k. get_or (preorder nodes) k 0 in
-    let there : (k : ℕ) → k ≤ length nodes → f k < length nodes = λ k le. All-get_or (λ j. j < length nodes) (preorder nodes) k 0 (omega (arith, le, long)) (preorder_there nodes tree) in
+    let there : (k : ℕ) → k ≤ length nodes → f k < length nodes =
+    λ k le. All-get_or (λ j. j < length nodes) (preorder nodes) k 0 (omega (arith, le, long)) (preorder_there nodes tree) in
     let r = pigeonhole (length nodes) f there in
     absurd (distinct r.0 r.1 r.2 (omega (arith, r.3, long)) r.4))
     (λ le. le)
@@ -218,12 +199,14 @@ path_below nodes tree (suc most) (suc i) le lt =
     (p ++ d ∷ [], leads-append nodes 0 k (suc i) p (d ∷ []) lead (suc i, b, refl))
 
 -- the place of a node in preorder
-pub place_of_path : (nodes : List Node) → IsTree nodes → (i : ℕ) (p : List Decision) → IsPathTo nodes i p → (n : ℕ) × (n < length (preorder nodes)) × (get_or (preorder nodes) n 0 ≡ i)
+pub place_of_path : (nodes : List Node) → IsTree nodes → (i : ℕ) (p : List Decision) → IsPathTo nodes i p
+    → (n : ℕ) × (n < length (preorder nodes)) × (get_or (preorder nodes) n 0 ≡ i)
 place_of_path nodes tree i p lead =
     let (n, lt, e) = reached nodes tree 0 p i tree.root lead in
     (n, lt, get_or_default (preorder nodes) n 0 i lt ∙ e)
 
-pub place_of_node : (nodes : List Node) → IsTree nodes → (i : ℕ) → i < length nodes → (n : ℕ) × (n < length (preorder nodes)) × (get_or (preorder nodes) n 0 ≡ i)
+pub place_of_node : (nodes : List Node) → IsTree nodes → (i : ℕ) → i < length nodes
+    → (n : ℕ) × (n < length (preorder nodes)) × (get_or (preorder nodes) n 0 ≡ i)
 place_of_node nodes tree i lt =
     let (p, lead) = path_below nodes tree i i (omega arith) lt in
     place_of_path nodes tree i p lead

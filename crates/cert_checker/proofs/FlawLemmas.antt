@@ -2,6 +2,7 @@
 use Rattle.std.proofs.Common.{⊎_elim, inl, inr, ◌⊎◌, ◌≡◌, ℕ, zero, suc, ◌+◌, ◌-◌, ◌<◌, ◌≤◌, List, [], ◌∷◌, ◌++◌, length, Option, Some, None, refl, sym, ◌∙◌, ap, subst, arith}
 use Rattle.std.specs.Prelude.{Contains, option_to_list, flat_map}
 use Rattle.std.proofs.lemmas.Bool.{cases_lt}
+use Rattle.std.proofs.lemmas.List.Elements.{Contains-append_right}
 use Rattle.std.proofs.lemmas.List.{get_or_append_left, get_or-append_right, length-append, append-nil}
 use Rattle.hoist_base.specs.LineData.{LineData}
 use Rattle.hoist_base.specs.declared.ids.MoveId.{MoveId}
@@ -10,15 +11,15 @@ use Rattle.choice_tree.specs.declared.constraint.Constraint.{Constraint}
 use Rattle.choice_tree.specs.declared.constraint.Constraint.TheVariants.{Min}
 use Rattle.choice_tree.specs.declared.node.Node.{Node}
 use Rattle.choice_tree.specs.declared.node.Node.TheVariants as nodes
-use Rattle.period_constraints.specs.Tanks.{IsStuck}
+use Rattle.path_constraints.specs.Tanks.{IsStuck}
 use Rattle.hoist_base.specs.LineData.{IsMove}
-use Rattle.period_constraints.specs.Constraints.{IsConstraint, arc_of}
-use Rattle.period_constraints.specs.Proves.{Walks, IsClosedWalk, RefuteBelow, Shows}
+use Rattle.path_constraints.specs.Constraints.{IsConstraint, arc_of}
+use Rattle.path_constraints.specs.Proves.{Walks, IsClosedWalk, RefuteBelow, Shows}
 use Rattle.cert_checker.specs.declared.reason.Reason.{Reason}
 use Rattle.cert_checker.specs.declared.reason.Reason.TheVariants as reasons
 use Rattle.cert_checker.specs.Walks.{HasWalks, low_of, high_of, walks_of, joined, followers, tokens_of, token_at}
 use Rattle.cert_checker.specs.Flaws.{IsUnfit, IsFree, IsStray, IsLoose, HasFlaw}
-use Rattle.period_constraints.proofs.CoverListLemmas.{contains_first, contains_right}
+use Rattle.list_facts.proofs.Elements.{contains_first}
 
 -- ---- the two walks of a leaf, one behind the other
 
@@ -57,22 +58,27 @@ word_cases low high j lt =
     let size = ap (λ (xs : List Constraint). length xs) (words_are low high) in
     ⊎_elim (λ below. inl below) (λ above. inr (above, omega (arith, lt, above, size, length-append (words low) (words high)))) (cases_lt j (length (words low)))
 
-pub word_low : (low high : Option (List Constraint)) (j : ℕ) → j < length (words low) → token_at (joined (option_to_list low ++ option_to_list high)) j ≡ token_at (words low) j
+pub word_low : (low high : Option (List Constraint)) (j : ℕ) → j < length (words low)
+    → token_at (joined (option_to_list low ++ option_to_list high)) j ≡ token_at (words low) j
 word_low low high j lt =
     ap (λ (xs : List Constraint). token_at xs j) (words_are low high) ∙ get_or_append_left (words low) (words high) (Min 0 0) j lt
 
-pub next_low : (low high : Option (List Constraint)) (j : ℕ) → j < length (words low) → token_at (flat_map followers (option_to_list low ++ option_to_list high)) j ≡ token_at (nexts low) j
+pub next_low : (low high : Option (List Constraint)) (j : ℕ) → j < length (words low)
+    → token_at (flat_map followers (option_to_list low ++ option_to_list high)) j ≡ token_at (nexts low) j
 next_low low high j lt =
-    ap (λ (xs : List Constraint). token_at xs j) (nexts_are low high) ∙ get_or_append_left (nexts low) (nexts high) (Min 0 0) j (omega (arith, lt, length-nexts low))
+    ap (λ (xs : List Constraint). token_at xs j) (nexts_are low high) ∙ get_or_append_left (nexts low) (nexts high) (Min 0 0) j
+    (omega (arith, lt, length-nexts low))
 
-pub word_high : (low high : Option (List Constraint)) (j k : ℕ) → j ≡ length (words low) + k → token_at (joined (option_to_list low ++ option_to_list high)) j ≡ token_at (words high) k
+pub word_high : (low high : Option (List Constraint)) (j k : ℕ) → j ≡ length (words low) + k
+    → token_at (joined (option_to_list low ++ option_to_list high)) j ≡ token_at (words high) k
 word_high low high j k at =
     let e : j - length (words low) ≡ k = omega (arith, at) in
     ap (λ (xs : List Constraint). token_at xs j) (words_are low high)
     ∙ get_or-append_right (words low) (words high) (length (words low)) j (Min 0 0) refl (omega (arith, at))
     ∙ ap (λ (n : ℕ). token_at (words high) n) e
 
-pub next_high : (low high : Option (List Constraint)) (j k : ℕ) → j ≡ length (words low) + k → token_at (flat_map followers (option_to_list low ++ option_to_list high)) j ≡ token_at (nexts high) k
+pub next_high : (low high : Option (List Constraint)) (j k : ℕ) → j ≡ length (words low) + k
+    → token_at (flat_map followers (option_to_list low ++ option_to_list high)) j ≡ token_at (nexts high) k
 next_high low high j k at =
     let e : j - length (words low) ≡ k = omega (arith, at) in
     ap (λ (xs : List Constraint). token_at xs j) (nexts_are low high)
@@ -89,12 +95,14 @@ pub record IsSound (l : LineData) (path : List Decision) (o : Option (List Const
   pub tied : (k : ℕ) → k < length (words o) → IsTiedIn l path o k
 
 -- a walk up to node (arc_of l path e).from, each constraint with the next one
-walk_there : (l : LineData) (path : List Decision) (i : ℕ) (ts : List Constraint) (j : ℕ) → Walks l path i ts j → (k : ℕ) → k < length ts → IsConstraint l path (token_at ts k)
+walk_there : (l : LineData) (path : List Decision) (i : ℕ) (ts : List Constraint) (j : ℕ) → Walks l path i ts j → (k : ℕ) → k < length ts
+    → IsConstraint l path (token_at ts k)
 walk_there l path i [] j w k lt = absurd (omega (arith, lt))
 walk_there l path i (t ∷ ts) j w zero lt = w.0
 walk_there l path i (t ∷ ts) j w (suc k) lt = walk_there l path (arc_of l path t).to ts j w.2 k (omega (arith, lt))
 
-walk_tied : (l : LineData) (path : List Decision) (i : ℕ) (t : Constraint) (ts : List Constraint) (j : ℕ) (e : Constraint) → Walks l path i (t ∷ ts) j → j ≡ (arc_of l path e).from
+walk_tied : (l : LineData) (path : List Decision) (i : ℕ) (t : Constraint) (ts : List Constraint) (j : ℕ) (e : Constraint) → Walks l path i (t ∷ ts) j
+    → j ≡ (arc_of l path e).from
     → (k : ℕ) → k < length (t ∷ ts) → (arc_of l path (token_at (t ∷ ts) k)).to ≡ (arc_of l path (token_at (ts ++ e ∷ []) k)).from
 walk_tied l path i t [] j e w last zero lt = w.2 ∙ last
 walk_tied l path i t [] j e w last (suc k) lt = absurd (omega (arith, lt))
@@ -108,16 +116,19 @@ closed_is_sound l path (t ∷ ts) closed = record {
   tied = walk_tied l path (arc_of l path t).from t ts (arc_of l path t).from t closed refl;
 }
 
-low_sound : (l : LineData) (path : List Decision) (low high : Option (List Constraint)) → ((walk : List Constraint) → Contains (option_to_list low ++ option_to_list high) walk → IsClosedWalk l path walk) → IsSound l path low
+low_sound : (l : LineData) (path : List Decision) (low high : Option (List Constraint))
+    → ((walk : List Constraint) → Contains (option_to_list low ++ option_to_list high) walk → IsClosedWalk l path walk) → IsSound l path low
 low_sound l path None high closed = record { there = λ k lt. absurd (omega (arith, lt)); tied = λ k lt. absurd (omega (arith, lt)) }
 low_sound l path (Some a) high closed = closed_is_sound l path a (closed a (contains_first a (option_to_list high)))
 
-high_sound : (l : LineData) (path : List Decision) (low high : Option (List Constraint)) → ((walk : List Constraint) → Contains (option_to_list low ++ option_to_list high) walk → IsClosedWalk l path walk) → IsSound l path high
+high_sound : (l : LineData) (path : List Decision) (low high : Option (List Constraint))
+    → ((walk : List Constraint) → Contains (option_to_list low ++ option_to_list high) walk → IsClosedWalk l path walk) → IsSound l path high
 high_sound l path low None closed = record { there = λ k lt. absurd (omega (arith, lt)); tied = λ k lt. absurd (omega (arith, lt)) }
-high_sound l path low (Some b) closed = closed_is_sound l path b (closed b (contains_right (option_to_list low) (b ∷ []) b (contains_first b [])))
+high_sound l path low (Some b) closed = closed_is_sound l path b (closed b (Contains-append_right (option_to_list low) (b ∷ []) b (contains_first b [])))
 
 -- two sound walks have no stray constraint, and no loose one
-pub none_stray : (l : LineData) (path : List Decision) (low high : Option (List Constraint)) → IsSound l path low → IsSound l path high → (j : ℕ) → j < length (joined (option_to_list low ++ option_to_list high))
+pub none_stray : (l : LineData) (path : List Decision) (low high : Option (List Constraint)) → IsSound l path low → IsSound l path high → (j : ℕ)
+    → j < length (joined (option_to_list low ++ option_to_list high))
     → IsConstraint l path (token_at (joined (option_to_list low ++ option_to_list high)) j)
 none_stray l path low high a b j lt =
     let P : Constraint → Type 0 = λ t. IsConstraint l path t in
@@ -126,7 +137,8 @@ none_stray l path low high a b j lt =
     (λ above. let k = j - length (words low) in subst P (sym (word_high low high j k (omega (arith, above.0)))) (b.there k above.1))
     (word_cases low high j lt)
 
-pub none_loose : (l : LineData) (path : List Decision) (low high : Option (List Constraint)) → IsSound l path low → IsSound l path high → (j : ℕ) → j < length (joined (option_to_list low ++ option_to_list high))
+pub none_loose : (l : LineData) (path : List Decision) (low high : Option (List Constraint)) → IsSound l path low → IsSound l path high → (j : ℕ)
+    → j < length (joined (option_to_list low ++ option_to_list high))
     → (arc_of l path (token_at (joined (option_to_list low ++ option_to_list high)) j)).to ≡ (arc_of l path (token_at (flat_map followers (option_to_list low ++ option_to_list high)) j)).from
 none_loose l path low high a b j lt =
     let to : Constraint → ℕ = λ t. (arc_of l path t).to in
@@ -141,7 +153,8 @@ none_loose l path low high a b j lt =
 
 -- ---- nodes
 
-leaf_refutes : (l : LineData) (path : List Decision) (node : Node) (bound : ℕ) → HasWalks node → Shows l path node bound → RefuteBelow l path (walks_of node) bound
+leaf_refutes : (l : LineData) (path : List Decision) (node : Node) (bound : ℕ) → HasWalks node → Shows l path node bound
+    → RefuteBelow l path (walks_of node) bound
 leaf_refutes l path (nodes.Split question children) bound w shows = absurd w
 leaf_refutes l path (nodes.Closed low high) bound w shows = shows
 leaf_refutes l path (nodes.Stuck m) bound w shows = absurd w
@@ -186,7 +199,8 @@ stray_shown l path node bound j shows stray =
     ⊎_elim
     (λ w.
     let closed = (leaf_refutes l path node bound w shows).closed in
-    stray.1 (none_stray l path (low_of node) (high_of node) (low_sound l path (low_of node) (high_of node) closed) (high_sound l path (low_of node) (high_of node) closed) j stray.0))
+    stray.1 (none_stray l path (low_of node) (high_of node) (low_sound l path (low_of node) (high_of node) closed)
+    (high_sound l path (low_of node) (high_of node) closed) j stray.0))
     (λ none. no_words node j none stray.0)
     (walks_or_not node)
 
@@ -195,7 +209,8 @@ loose_shown l path node bound j shows loose =
     ⊎_elim
     (λ w.
     let closed = (leaf_refutes l path node bound w shows).closed in
-    loose.1 (none_loose l path (low_of node) (high_of node) (low_sound l path (low_of node) (high_of node) closed) (high_sound l path (low_of node) (high_of node) closed) j loose.0))
+    loose.1 (none_loose l path (low_of node) (high_of node) (low_sound l path (low_of node) (high_of node) closed)
+    (high_sound l path (low_of node) (high_of node) closed) j loose.0))
     (λ none. no_words node j none loose.0)
     (walks_or_not node)
 

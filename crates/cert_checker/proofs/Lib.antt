@@ -1,5 +1,4 @@
 pub mod PeriodLemmas
-pub mod SizeLemmas
 pub mod FollowLemmas
 pub mod WaitLemmas
 pub mod DistinctLemmas

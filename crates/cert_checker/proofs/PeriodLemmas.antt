@@ -1,36 +1,18 @@
 -- Periods that walks refute: each walk those on one side of a number.
 use Rattle.std.proofs.Common.{◌≡◌, ℕ, ◌*◌, ◌<◌, ◌≤◌, ⊎_elim, inl, inr, sym, subst, Option, Some, None, ℤ, pos, negsuc, ◌+ℤ◌, ◌*ℤ◌, ◌<ℤ◌, arith}
 use Rattle.std.specs.Prelude.{unsigned_abs, max}
-use Rattle.std.specs.Int.{div_ceil}
 use Rattle.std.proofs.lemmas.Int.{ints, by_lt_z}
 use Rattle.std.proofs.lemmas.Bool.{cases_lt}
 use Rattle.std.proofs.lemmas.Nat.{mul-le}
 use Rattle.longest_path.specs.System.{Refutes}
-use Rattle.cycle_walk.proofs.ClimbLemmas.{below_kept, kept_above, refutes_on}
-use Rattle.cert_checker.specs.declared.reason.Sums.{Sums}
+use Rattle.cycle_walk.proofs.ClimbLemmas.{refutes_on}
+use Rattle.cycle_walk.specs.declared.sums.Sums.{Sums}
 use Rattle.cert_checker.specs.Followed.{Gives, AllGiven}
 
 -- the walk's line at a natural period, where its q is below 0
 falling : (q : ℤ) (t : ℕ) → q <ℤ pos 0 → (0 < unsigned_abs q) × (pos (t * unsigned_abs q) +ℤ q *ℤ pos t ≡ pos 0)
 falling (pos n) t h = absurd (omega (arith, ints, h))
 falling (negsuc n) t h = (omega (arith, ints), omega (arith, ints))
-
--- where period 1 is refuted, so is each below the quotient
-pub refuted_below : (w q : ℤ) (t : ℕ) → Refutes w q 1 → q <ℤ pos 0 → t < div_ceil (unsigned_abs w) (unsigned_abs q) → Refutes w q t
-refuted_below w q t gains down lt =
-    let (p, line) = falling q t down in
-    let at = falling q 1 down in
-    let under = below_kept (unsigned_abs w) (unsigned_abs q) t p lt in
-    omega (arith, ints, gains, line, at.1, under)
-
--- and the quotient isn't
-pub kept_at : (w q : ℤ) → Refutes w q 1 → q <ℤ pos 0 → Refutes w q (div_ceil (unsigned_abs w) (unsigned_abs q)) → ⊥
-kept_at w q gains down again =
-    let t = div_ceil (unsigned_abs w) (unsigned_abs q) in
-    let (p, line) = falling q t down in
-    let at = falling q 1 down in
-    let up = kept_above (unsigned_abs w) (unsigned_abs q) t p (omega (arith, ints, gains, again, line, at.1)) in
-    omega (arith, up)
 
 -- a walk that refutes a period, and not an earlier one, refutes all later ones
 pub given_from : (o : Option Sums) (m p t : ℕ) → m ≤ p → p ≤ t → (Gives o m → ⊥) → Gives o p → Gives o t
@@ -45,7 +27,8 @@ given_from (Some s) m p t le le' shut gains =
     (λ up. refutes_on s.w s.q p t gains up le')
 
 -- before the greater of two periods each is refuted by one of two walks
-pub given_before : (low high : Option Sums) (m n p : ℕ) → p ≡ max m n → ((t : ℕ) → 1 ≤ t → t < m → Gives low t) → ((t : ℕ) → 1 ≤ t → t < n → Gives high t) → AllGiven low high p
+pub given_before : (low high : Option Sums) (m n p : ℕ) → p ≡ max m n → ((t : ℕ) → 1 ≤ t → t < m → Gives low t) → ((t : ℕ) → 1 ≤ t → t < n → Gives high t)
+    → AllGiven low high p
 given_before low high m n p is a b t some lt =
     ⊎_elim (λ under. inl (a t some under)) (λ over. inr (b t some (omega (arith, is, lt, over)))) (cases_lt t m)
 
@@ -55,21 +38,8 @@ pub given_by_low : (low high : Option Sums) (m n p bound : ℕ) → p ≡ max m 
 given_by_low low high m n p bound is a b shut gains t some lt =
     ⊎_elim (λ under. given_before low high m n p is a b t some under) (λ over. inl (given_from low m p t (omega (arith, is)) over shut gains)) (cases_lt t p)
 
-pub given_by_high : (low high : Option Sums) (m n p bound : ℕ) → p ≡ max m n → ((t : ℕ) → 1 ≤ t → t < m → Gives low t) → ((t : ℕ) → 1 ≤ t → t < n → Gives high t)
+pub given_by_high : (low high : Option Sums) (m n p bound : ℕ) → p ≡ max m n → ((t : ℕ) → 1 ≤ t → t < m → Gives low t)
+    → ((t : ℕ) → 1 ≤ t → t < n → Gives high t)
     → (Gives high n → ⊥) → Gives high p → AllGiven low high bound
 given_by_high low high m n p bound is a b shut gains t some lt =
     ⊎_elim (λ under. given_before low high m n p is a b t some under) (λ over. inr (given_from high n p t (omega (arith, is)) over shut gains)) (cases_lt t p)
-
--- both at what the code reads
-pub refuted_below_as : (w q w' q' : ℤ) (t : ℕ) → w' ≡ w → q' ≡ q → Refutes w' q' 1 → q' <ℤ pos 0 → t < div_ceil (unsigned_abs w') (unsigned_abs q') → Refutes w q t
-refuted_below_as w q w' q' t e f gains down lt =
-    let P : ℤ → Type 0 = λ x. Refutes x q' t in
-    let Q : ℤ → Type 0 = λ y. Refutes w y t in
-    subst Q f (subst P e (refuted_below w' q' t gains down lt))
-
-pub kept_as : (w q w' q' : ℤ) (t : ℕ) → w' ≡ w → q' ≡ q → Refutes w' q' 1 → q' <ℤ pos 0 → t ≡ div_ceil (unsigned_abs w') (unsigned_abs q') → Refutes w q t → ⊥
-kept_as w q w' q' t e f gains down at again =
-    let P : ℤ → Type 0 = λ x. Refutes x q' t in
-    let Q : ℤ → Type 0 = λ y. Refutes w y t in
-    let T : ℕ → Type 0 = λ n. Refutes w' q' n in
-    kept_at w' q' gains down (subst T at (subst P (sym e) (subst Q (sym f) again)))

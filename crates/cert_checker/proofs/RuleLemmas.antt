@@ -1,6 +1,6 @@
 -- What each rule rules out, and which reason is the first of all.
 use Rattle.std.proofs.Common.{⊎_elim, inl, inr, ◌⊎◌, ◌≡◌, ◌≢◌, ℕ, ◌<◌, ◌≤◌, List, [], ◌∷◌, length, ℤ, pos, Option, Some, None, refl, sym, ◌∙◌, subst, arith}
-use Rattle.std.specs.Prelude.{IsSome, IfSome}
+use Rattle.std.specs.Prelude.{IsSome, IfSome, MatchOption}
 use Rattle.std.proofs.lemmas.Int.{ints}
 use Rattle.std.proofs.lemmas.Bool.{cases_lt, false≢true}
 use Rattle.std.proofs.lemmas.List.Elements.{All-get_or}
@@ -12,20 +12,20 @@ use Rattle.timetable.specs.declared.fault.Fault.{Fault}
 use Rattle.timetable.specs.Faults.{HasFault, IsFirstFault, IsLess, rule_of, values_of}
 use Rattle.timetable.proofs.Legality.{legal_has_none}
 use Rattle.choice_tree.specs.declared.node.Node.{Node}
-use Rattle.choice_tree.specs.Nodes.{node_at}
+use Rattle.choice_tree.specs.Nodes.{node_at, NoneLeft}
 use Rattle.choice_tree.specs.Trees.{IsTree, preorder}
-use Rattle.period_constraints.specs.Proves.{Proves}
+use Rattle.path_constraints.specs.Proves.{Proves}
 use Rattle.answer_text.specs.declared.answer.Verdict.{Verdict}
 use Rattle.answer_text.specs.declared.answer.Verdict.TheVariants.{Optimal, Nothing, Unfinished}
 use Rattle.answer_text.specs.declared.answer.Answer.{Answer}
 use Rattle.answer_text.proofs.OrderLemmas.{preorder_there}
 use Rattle.cert_checker.specs.declared.reason.Reason.{Reason}
 use Rattle.cert_checker.specs.declared.reason.Reason.TheVariants as reasons
-use Rattle.cert_checker.specs.Reasons.{IsWrongBound, split_count, number_at, IsLeftNode, NoneLeft, IsFlawed, HasReason}
+use Rattle.cert_checker.specs.Reasons.{IsWrongBound, split_count, number_at, IsLeftNode, IsFlawed, HasReason}
 use Rattle.cert_checker.specs.Order.{rule_number, place_in_rule, IsEarlier, IsFirstReason}
 use Rattle.cert_checker.specs.Rules.{IsClaim, HasItsLeft, KeepsRules}
 use Rattle.cert_checker.specs.Judged.{named, rank_of}
-use Rattle.cert_checker.specs.Waiting.{IsFirstFlawed, IsFirstFrom}
+use Rattle.cert_checker.specs.Waiting.{IsFirstFlawed, IsFirstFrom, IsTreeAnswer}
 use Rattle.cert_checker.specs.Laws.{NoReasonWhereKept}
 use Rattle.cert_checker.proofs.FlawLemmas.{no_flaw_shown}
 
@@ -45,7 +45,8 @@ extra_none : (l : LineData) (v : Verdict) (o : Option TimetableData) (bound : �
 extra_none l v None bound claim e some = false≢true some
 extra_none l v (Some t) bound claim e some = let P : Verdict → Type 0 = λ x. IsClaim l x (Some t) bound in subst P e claim
 
-bound_none : (l : LineData) (v : Verdict) (o : Option TimetableData) (bound seen want : ℕ) → IsClaim l v o bound → seen ≡ bound → IsWrongBound l v o seen want → ⊥
+bound_none : (l : LineData) (v : Verdict) (o : Option TimetableData) (bound seen want : ℕ) → IsClaim l v o bound → seen ≡ bound → IsWrongBound l v o seen want
+    → ⊥
 bound_none l Optimal None bound seen want claim e wrong = claim
 bound_none l Optimal (Some t) bound seen want claim e wrong = wrong.1 (e ∙ claim ∙ sym wrong.0)
 bound_none l Nothing None bound seen want claim e wrong = wrong.1 (e ∙ claim ∙ sym wrong.0)
@@ -67,7 +68,8 @@ no_left_none a v left e none =
     let r = subst P e left in
     none r.0 r.1 r.2
 
-same_timetable : (l : LineData) (o : Option TimetableData) (t : TimetableData) → o ≡ Some t → IfSome o (λ d. IsLegal l (timetable_of d)) → IsLegal l (timetable_of t)
+same_timetable : (l : LineData) (o : Option TimetableData) (t : TimetableData) → o ≡ Some t → IfSome o (λ d. IsLegal l (timetable_of d))
+    → IsLegal l (timetable_of t)
 same_timetable l o t e legal = let P : Option TimetableData → Type 0 = λ x. IfSome x (λ d. IsLegal l (timetable_of d)) in subst P e legal
 
 flawed_none : (l : LineData) (nodes : List Node) (bound n : ℕ) (r : Reason) → IsTree nodes → Proves l nodes bound → IsFlawed l nodes bound n r → ⊥
@@ -90,7 +92,8 @@ claim_rules l a (reasons.Token n j) claim has lt = omega (arith, lt)
 claim_rules l a (reasons.Joint n j) claim has lt = omega (arith, lt)
 claim_rules l a (reasons.Period n period low high) claim has lt = omega (arith, lt)
 
-pub splits_rule : (l : LineData) (a : Answer) (r : Reason) → IsClaim l a.verdict a.timetable a.bound → a.splits ≡ split_count a.tree → HasReason l a r → rule_number r < 4 → ⊥
+pub splits_rule : (l : LineData) (a : Answer) (r : Reason) → IsClaim l a.verdict a.timetable a.bound → a.splits ≡ split_count a.tree → HasReason l a r
+    → rule_number r < 4 → ⊥
 splits_rule l a reasons.TimetableMissing claim splits has lt = claim_rules l a reasons.TimetableMissing claim has (omega arith)
 splits_rule l a reasons.TimetableExtra claim splits has lt = claim_rules l a reasons.TimetableExtra claim has (omega arith)
 splits_rule l a (reasons.Bound seen want) claim splits has lt = claim_rules l a (reasons.Bound seen want) claim has (omega arith)
@@ -104,7 +107,8 @@ splits_rule l a (reasons.Token n j) claim splits has lt = omega (arith, lt)
 splits_rule l a (reasons.Joint n j) claim splits has lt = omega (arith, lt)
 splits_rule l a (reasons.Period n period low high) claim splits has lt = omega (arith, lt)
 
-pub left_rules : (l : LineData) (a : Answer) (r : Reason) → IsTree a.tree → IsClaim l a.verdict a.timetable a.bound → a.splits ≡ split_count a.tree → HasItsLeft a a.verdict → HasReason l a r → rule_number r < 6 → ⊥
+pub left_rules : (l : LineData) (a : Answer) (r : Reason) → IsTree a.tree → IsClaim l a.verdict a.timetable a.bound → a.splits ≡ split_count a.tree
+    → HasItsLeft a a.verdict → HasReason l a r → rule_number r < 6 → ⊥
 left_rules l a reasons.TimetableMissing tree claim splits left has lt = claim_rules l a reasons.TimetableMissing claim has (omega arith)
 left_rules l a reasons.TimetableExtra tree claim splits left has lt = claim_rules l a reasons.TimetableExtra claim has (omega arith)
 left_rules l a (reasons.Bound seen want) tree claim splits left has lt = claim_rules l a (reasons.Bound seen want) claim has (omega arith)
@@ -118,7 +122,8 @@ left_rules l a (reasons.Token n j) tree claim splits left has lt = omega (arith,
 left_rules l a (reasons.Joint n j) tree claim splits left has lt = omega (arith, lt)
 left_rules l a (reasons.Period n period low high) tree claim splits left has lt = omega (arith, lt)
 
-pub fault_rule : (l : LineData) (a : Answer) (r : Reason) → IsLine l → IsTree a.tree → IsClaim l a.verdict a.timetable a.bound → a.splits ≡ split_count a.tree → HasItsLeft a a.verdict → IfSome a.timetable (λ t. IsLegal l (timetable_of t)) → HasReason l a r → rule_number r < 7 → ⊥
+pub fault_rule : (l : LineData) (a : Answer) (r : Reason) → IsLine l → IsTree a.tree → IsClaim l a.verdict a.timetable a.bound → a.splits ≡ split_count a.tree
+    → HasItsLeft a a.verdict → IfSome a.timetable (λ t. IsLegal l (timetable_of t)) → HasReason l a r → rule_number r < 7 → ⊥
 fault_rule l a reasons.TimetableMissing line tree claim splits left legal has lt = claim_rules l a reasons.TimetableMissing claim has (omega arith)
 fault_rule l a reasons.TimetableExtra line tree claim splits left legal has lt = claim_rules l a reasons.TimetableExtra claim has (omega arith)
 fault_rule l a (reasons.Bound seen want) line tree claim splits left legal has lt = claim_rules l a (reasons.Bound seen want) claim has (omega arith)
@@ -204,7 +209,8 @@ first_of_all l a rule r none from = record {
 }
 
 -- an earlier reason is of an earlier rule, or earlier within the rule
-pub earlier_cases : (s r : Reason) → IsEarlier s r → (rule_number s < rule_number r) ⊎ ((rule_number s ≡ rule_number r) × IsLess (place_in_rule s) (place_in_rule r))
+pub earlier_cases : (s r : Reason) → IsEarlier s r
+    → (rule_number s < rule_number r) ⊎ ((rule_number s ≡ rule_number r) × IsLess (place_in_rule s) (place_in_rule r))
 earlier_cases s r e = ⊎_elim (λ lt. inl (omega (arith, ints, lt))) (λ same. inr (omega (arith, ints, same.0), same.1)) e
 
 pub none_before_nil : (xs : List ℤ) → IsLess xs [] → ⊥
@@ -245,7 +251,8 @@ first_flaw_of l a r f =
     }
 
 -- the first left node
-left_before : (l : LineData) (a : Answer) (s : Reason) (n : ℕ) → ((m : ℕ) → m < n → IsLeftNode a.tree m → ⊥) → HasReason l a s → rule_number s ≡ 4 → IsLess (place_in_rule s) (pos n ∷ []) → ⊥
+left_before : (l : LineData) (a : Answer) (s : Reason) (n : ℕ) → ((m : ℕ) → m < n → IsLeftNode a.tree m → ⊥) → HasReason l a s → rule_number s ≡ 4
+    → IsLess (place_in_rule s) (pos n ∷ []) → ⊥
 left_before l a reasons.TimetableMissing n none has e less = omega (arith, e)
 left_before l a reasons.TimetableExtra n none has e less = omega (arith, e)
 left_before l a (reasons.Bound seen want) n none has e less = omega (arith, e)
@@ -259,7 +266,8 @@ left_before l a (reasons.Token m j) n none has e less = omega (arith, e)
 left_before l a (reasons.Joint m j) n none has e less = omega (arith, e)
 left_before l a (reasons.Period m period low high) n none has e less = omega (arith, e)
 
-pub first_left_node : (l : LineData) (a : Answer) (n : ℕ) → a.verdict ≢ Unfinished → IsLeftNode a.tree n → ((m : ℕ) → m < n → IsLeftNode a.tree m → ⊥) → IsFirstFrom l a 4 (reasons.LeftNode n)
+pub first_left_node : (l : LineData) (a : Answer) (n : ℕ) → a.verdict ≢ Unfinished → IsLeftNode a.tree n → ((m : ℕ) → m < n → IsLeftNode a.tree m → ⊥)
+    → IsFirstFrom l a 4 (reasons.LeftNode n)
 first_left_node l a n differ here none = record {
   has = (differ, here);
   first = λ s has le earlier.
@@ -291,7 +299,8 @@ first_no_left l a v none = record {
 }
 
 -- the first fault
-fault_before : (l : LineData) (a : Answer) (s : Reason) (t : TimetableData) (f : Fault) → a.timetable ≡ Some t → IsFirstFault l (timetable_of t) f → HasReason l a s → rule_number s ≡ 6 → IsLess (place_in_rule s) (pos (rule_of f) ∷ values_of f) → ⊥
+fault_before : (l : LineData) (a : Answer) (s : Reason) (t : TimetableData) (f : Fault) → a.timetable ≡ Some t → IsFirstFault l (timetable_of t) f
+    → HasReason l a s → rule_number s ≡ 6 → IsLess (place_in_rule s) (pos (rule_of f) ∷ values_of f) → ⊥
 fault_before l a reasons.TimetableMissing t f is first has e less = omega (arith, e)
 fault_before l a reasons.TimetableExtra t f is first has e less = omega (arith, e)
 fault_before l a (reasons.Bound seen want) t f is first has e less = omega (arith, e)
@@ -308,7 +317,8 @@ fault_before l a (reasons.Token m j) t f is first has e less = omega (arith, e)
 fault_before l a (reasons.Joint m j) t f is first has e less = omega (arith, e)
 fault_before l a (reasons.Period m period low high) t f is first has e less = omega (arith, e)
 
-pub first_fault_of : (l : LineData) (a : Answer) (t : TimetableData) (f : Fault) → a.timetable ≡ Some t → IsFirstFault l (timetable_of t) f → IsFirstFrom l a 6 (reasons.Fault f)
+pub first_fault_of : (l : LineData) (a : Answer) (t : TimetableData) (f : Fault) → a.timetable ≡ Some t → IsFirstFault l (timetable_of t) f
+    → IsFirstFrom l a 6 (reasons.Fault f)
 first_fault_of l a t f is first = record {
   has = (t, is, first.has);
   first = λ s has le earlier.
@@ -327,3 +337,32 @@ no_reason l a r line tree kept has =
 -- a reason is a rule that isn't kept
 pub not_kept : (l : LineData) (a : Answer) (r : Reason) → IsLine l → IsTree a.tree → HasReason l a r → KeepsRules l a → ⊥
 not_kept l a r line tree has kept = no_reason l a r line tree kept has
+
+-- ---- what the rules answer, where they were tried one after another
+
+abbrev pub IsLeftAnswer : Answer → Option Reason → Type 0
+IsLeftAnswer a o = (l : LineData) → MatchOption o (HasItsLeft a a.verdict) (λ r. IsFirstFrom l a 4 r)
+
+pub left_kept : (l : LineData) (a : Answer) (o : Option Reason) → IsLeftAnswer a o → o ≡ None → HasItsLeft a a.verdict
+left_kept l a o answer e = let P : Option Reason → Type 0 = λ p. IsLeftAnswer a p in subst P e answer l
+
+pub left_found : (l : LineData) (a : Answer) (o : Option Reason) (r : Reason) → IsLeftAnswer a o → o ≡ Some r → IsFirstFrom l a 4 r
+left_found l a o r answer e = let P : Option Reason → Type 0 = λ p. IsLeftAnswer a p in subst P e answer l
+
+pub tree_kept : (l : LineData) (a : Answer) (o : Option Reason) → IsTreeAnswer l a.tree a.bound o → o ≡ None → Proves l a.tree a.bound
+tree_kept l a o answer e = let P : Option Reason → Type 0 = λ p. IsTreeAnswer l a.tree a.bound p in subst P e answer
+
+pub tree_found : (l : LineData) (a : Answer) (o : Option Reason) (r : Reason) → IsTreeAnswer l a.tree a.bound o → o ≡ Some r → IsFirstFrom l a 7 r
+tree_found l a o r answer e =
+    let P : Option Reason → Type 0 = λ p. IsTreeAnswer l a.tree a.bound p in
+    first_flaw_of l a r (subst P e answer)
+
+pub all_kept : (l : LineData) (a : Answer) (o p : Option Reason) → IsClaim l a.verdict a.timetable a.bound → a.splits ≡ split_count a.tree
+    → IsLeftAnswer a o → o ≡ None → IfSome a.timetable (λ t. IsLegal l (timetable_of t)) → IsTreeAnswer l a.tree a.bound p → p ≡ None → KeepsRules l a
+all_kept l a o p claim splits left none legal tree shown = record {
+  claim = claim;
+  splits = splits;
+  left = left_kept l a o left none;
+  legal = legal;
+  proves = tree_kept l a p tree shown;
+}

@@ -1,28 +1,31 @@
 -- The way through a tree in preorder.
-use Rattle.std.proofs.Common.{⊎_elim, ◌≡◌, ℕ, suc, ◌+◌, ◌<◌, ◌≤◌, List, [], ◌∷◌, ◌++◌, length, get_or, take, drop, map, reverse, refl, sym, ◌∙◌, ap, subst, arith}
+use Rattle.std.proofs.Common.{⊎_elim, Bool, ◌≡◌, ℕ, suc, ◌+◌, ◌<◌, ◌≤◌, List, [], ◌∷◌, ◌++◌, length, get_or, take, drop, map, reverse, refl, sym, ◌∙◌, ap, subst, arith}
 use Rattle.std.specs.Prelude.{flat_map}
 use Rattle.std.proofs.lemmas.Bool.{cases_lt}
 use Rattle.std.proofs.lemmas.List.{length-drop, get_or-drop, drop-drop, map-append, take_all, take-append-le, reverse-append, reverse-reverse, append-nil, length-append}
 use Rattle.std.proofs.lemmas.Grind.{flat_map-append}
 use Rattle.hoist_base.specs.LineData.{LineData}
 use Rattle.choice_tree.specs.declared.question.Question.{Question}
+use Rattle.choice_tree.specs.declared.question.Question.TheVariants.{Choose, TankOrder, HoistOrder, Assign}
 use Rattle.choice_tree.specs.declared.question.Decision.{Decision}
 use Rattle.choice_tree.specs.declared.node.Node.{Node}
 use Rattle.choice_tree.specs.declared.node.Node.TheVariants.{Split, Closed, Stuck, Solved, Left}
 use Rattle.choice_tree.specs.Nodes.{node_at, children_of, Branches, IsPathTo}
 use Rattle.choice_tree.specs.Trees.{IsTree, preorder}
+use Rattle.choice_tree.proofs.OrderLemmas.{below, below_step}
 use Rattle.choice_tree.proofs.PathLemmas.{branch_later, one_path, leads_on}
-use Rattle.period_constraints.specs.Questions.{FitsPath}
-use Rattle.period_constraints.specs.Proves.{Shows, Proves, IsWholeSplit}
-use Rattle.period_constraints.proofs.CoverTreeLemmas.{fits_more}
+use Rattle.path_constraints.specs.Questions.{FitsPath}
+use Rattle.path_constraints.specs.Proves.{Shows, Proves, IsWholeSplit}
+use Rattle.path_constraints.proofs.CoverTreeLemmas.{fits_more}
+use Rattle.answer_text.specs.Nodes.{IsNodeText, IsQuestionText}
 use Rattle.cert_checker.specs.declared.reason.Reason.{Reason}
 use Rattle.cert_checker.specs.declared.tree.Waiting.{Waiting}
 use Rattle.cert_checker.specs.Reasons.{number_at, StandsAt, IsFlawed}
 use Rattle.cert_checker.specs.Flaws.{HasFlaw}
 use Rattle.cert_checker.specs.Judged.{IsFirstFlaw}
-use Rattle.cert_checker.specs.Waiting.{waits_of, IsFirstFlawed}
+use Rattle.cert_checker.specs.Waiting.{waits_of, waits_below, IsFirstFlawed}
 use Rattle.cert_checker.proofs.WaitLemmas.{nodes-waits}
-use Rattle.cert_checker.proofs.DistinctLemmas.{below, below_step, place_of_path, preorder_short}
+use Rattle.cert_checker.proofs.DistinctLemmas.{place_of_path, preorder_short}
 use Rattle.cert_checker.proofs.FlawLemmas.{no_flaw_shown}
 
 -- a node to which a path leads that fits the line
@@ -41,7 +44,8 @@ AreReady l nodes path [] = Unit {0}
 AreReady l nodes path (w ∷ ws) = (w.above ≤ length path) × IsReady l nodes (path_of path w) w.node × AreReady l nodes (take w.above path) ws
 
 -- a longer path leaves them ready
-ready_longer : (l : LineData) (nodes : List Node) (path more : List Decision) (ws : List Waiting) → AreReady l nodes path ws → AreReady l nodes (path ++ more) ws
+ready_longer : (l : LineData) (nodes : List Node) (path more : List Decision) (ws : List Waiting) → AreReady l nodes path ws
+    → AreReady l nodes (path ++ more) ws
 ready_longer l nodes path more [] h = tt
 ready_longer l nodes path more (w ∷ ws) h =
     let same : take w.above (path ++ more) ≡ take w.above path = take-append-le w.above path more h.0 in
@@ -51,7 +55,8 @@ ready_longer l nodes path more (w ∷ ws) h =
 
 -- the children of a split at the path's end are ready
 ready_children : (l : LineData) (nodes : List Node) (path : List Decision) (question : Question) (m : ℕ) (cs : List ℕ) (ws : List Waiting)
-    → ((k : ℕ) → k < length cs → IsReady l nodes (path ++ (let d : Decision = record { question = question; child = m + k } in d) ∷ []) (get_or cs k 0)) → AreReady l nodes path ws → AreReady l nodes path (waits_of (length path) question m cs ++ ws)
+    → ((k : ℕ) → k < length cs → IsReady l nodes (path ++ (let d : Decision = record { question = question; child = m + k } in d) ∷ []) (get_or cs k 0))
+    → AreReady l nodes path ws → AreReady l nodes path (waits_of (length path) question m cs ++ ws)
 ready_children l nodes path question m [] ws each h = h
 ready_children l nodes path question m (c ∷ cs) ws each h =
     let whole : take (length path) path ≡ path = take_all (length path) path (omega arith) in
@@ -60,7 +65,10 @@ ready_children l nodes path question m (c ∷ cs) ws each h =
     let N : ℕ → Type 0 = λ n. IsReady l nodes (path ++ decision n ∷ []) c in
     let P : List Decision → Type 0 = λ ds. IsReady l nodes (ds ++ decision m ∷ []) c in
     let Q : List Decision → Type 0 = λ ds. AreReady l nodes ds (waits_of (length path) question (m + 1) cs ++ ws) in
-    let rest = ready_children l nodes path question (m + 1) cs ws (λ k lt. let e : m + suc k ≡ m + 1 + k = omega arith in let M : ℕ → Type 0 = λ n. IsReady l nodes (path ++ decision n ∷ []) (get_or cs k 0) in subst M e (each (suc k) (omega (arith, lt)))) h in
+    let rest =
+    ready_children l nodes path question (m + 1) cs ws
+    (λ k lt. let e : m + suc k ≡ m + 1 + k = omega arith in let M : ℕ → Type 0 = λ n. IsReady l nodes (path ++ decision n ∷ []) (get_or cs k 0) in subst M e
+    (each (suc k) (omega (arith, lt)))) h in
     (omega arith, subst P (sym whole) (subst N zero_in (each 0 (omega arith))), subst Q (sym whole) rest)
 
 -- where one is: at node number n, with its path and the nodes that wait; all nodes before it show what they are to show
@@ -70,7 +78,8 @@ pub record IsOnWay (l : LineData) (nodes : List Node) (bound n at : ℕ) (path :
   pub ready : AreReady l nodes path (reverse waiting)
   pub shown : (m i : ℕ) (p : List Decision) → m < n → StandsAt nodes m i p → Shows l p (node_at nodes i) bound
 
-pub on_way_first : (l : LineData) (nodes : List Node) (bound : ℕ) (path : List Decision) (waiting : List Waiting) → IsTree nodes → path ≡ [] → waiting ≡ [] → IsOnWay l nodes bound 0 0 path waiting
+pub on_way_first : (l : LineData) (nodes : List Node) (bound : ℕ) (path : List Decision) (waiting : List Waiting) → IsTree nodes → path ≡ [] → waiting ≡ []
+    → IsOnWay l nodes bound 0 0 path waiting
 on_way_first l nodes bound path waiting tree e f =
     let P : List Decision → Type 0 = λ ds. IsOnWay l nodes bound 0 0 ds waiting in
     let Q : List Waiting → Type 0 = λ ws. IsOnWay l nodes bound 0 0 [] ws in
@@ -86,10 +95,14 @@ first_left_over : (nodes : List Node) (n i : ℕ) (rest : List ℕ) → drop n (
 first_left_over nodes n i rest e =
     let size = ap (λ (xs : List ℕ). length xs) e in
     let z : n + 0 ≡ n = omega arith in
-    let first : get_or (drop n (preorder nodes)) 0 0 ≡ i = ap (λ (xs : List ℕ). get_or xs 0 0) e in
-    (omega (arith, size, length-drop n (preorder nodes)), sym (ap (λ (k : ℕ). get_or (preorder nodes) k 0) z) ∙ sym (get_or-drop n (preorder nodes) 0 0) ∙ first)
+    let first : get_or (drop n (preorder nodes)) 0 0 ≡ i = ap (λ (xs : List ℕ). get_or xs 0 0) e in (
+      omega (arith, size, length-drop n (preorder nodes)),
+      sym (ap (λ (k : ℕ). get_or (preorder nodes) k 0) z) ∙ sym (get_or-drop n (preorder nodes) 0 0)
+          ∙ first,
+    )
 
-over_here : (l : LineData) (nodes : List Node) (bound n at : ℕ) (path : List Decision) (waiting : List Waiting) → IsTree nodes → IsOnWay l nodes bound n at path waiting
+over_here : (l : LineData) (nodes : List Node) (bound n at : ℕ) (path : List Decision) (waiting : List Waiting) → IsTree nodes
+    → IsOnWay l nodes bound n at path waiting
     → drop n (preorder nodes) ≡ at ∷ flat_map (below nodes) (children_of (node_at nodes at) ++ map (λ (w : Waiting). w.node) (reverse waiting))
 over_here l nodes bound n at path waiting tree way =
     let rest = map (λ (w : Waiting). w.node) (reverse waiting) in
@@ -98,7 +111,8 @@ over_here l nodes bound n at path waiting tree way =
     ∙ ap (λ (xs : List ℕ). xs ++ flat_map (below nodes) rest) (below_step nodes tree at way.here.there)
     ∙ ap (λ (xs : List ℕ). at ∷ xs) (sym (flat_map-append (below nodes) cs rest))
 
-pub stands_here : (l : LineData) (nodes : List Node) (bound n at : ℕ) (path : List Decision) (waiting : List Waiting) → IsTree nodes → IsOnWay l nodes bound n at path waiting → StandsAt nodes n at path
+pub stands_here : (l : LineData) (nodes : List Node) (bound n at : ℕ) (path : List Decision) (waiting : List Waiting) → IsTree nodes
+    → IsOnWay l nodes bound n at path waiting → StandsAt nodes n at path
 stands_here l nodes bound n at path waiting tree way =
     let r = first_left_over nodes n at _ (over_here l nodes bound n at path waiting tree way) in
     record { there = r.0; is = r.1; leads = way.here.leads }
@@ -112,7 +126,8 @@ same_stand nodes n i j p q tree a b =
 
 -- ---- a flaw
 
-pub flawed_here : (l : LineData) (nodes : List Node) (bound n at : ℕ) (path : List Decision) (waiting : List Waiting) (r : Reason) → IsTree nodes → IsOnWay l nodes bound n at path waiting → IsFirstFlaw l path (node_at nodes at) bound n r → IsFirstFlawed l nodes bound r
+pub flawed_here : (l : LineData) (nodes : List Node) (bound n at : ℕ) (path : List Decision) (waiting : List Waiting) (r : Reason) → IsTree nodes
+    → IsOnWay l nodes bound n at path waiting → IsFirstFlaw l path (node_at nodes at) bound n r → IsFirstFlawed l nodes bound r
 flawed_here l nodes bound n at path waiting r tree way first =
     let stands = stands_here l nodes bound n at path waiting tree way in
     let F : ℕ → Type 0 = λ k. IsFlawed l nodes bound k r in
@@ -131,7 +146,8 @@ flawed_here l nodes bound n at path waiting r tree way first =
 -- ---- on to the next node
 
 -- all nodes up to this one show it
-shown_more : (l : LineData) (nodes : List Node) (bound n at : ℕ) (path : List Decision) (waiting : List Waiting) → IsTree nodes → IsOnWay l nodes bound n at path waiting → Shows l path (node_at nodes at) bound
+shown_more : (l : LineData) (nodes : List Node) (bound n at : ℕ) (path : List Decision) (waiting : List Waiting) → IsTree nodes
+    → IsOnWay l nodes bound n at path waiting → Shows l path (node_at nodes at) bound
     → (m i : ℕ) (p : List Decision) → m < n + 1 → StandsAt nodes m i p → Shows l p (node_at nodes i) bound
 shown_more l nodes bound n at path waiting tree way shows m i p lt stands =
     ⊎_elim (λ before. way.shown m i p before stands)
@@ -154,7 +170,8 @@ drop_one : (n i : ℕ) (xs rest : List ℕ) → drop n xs ≡ i ∷ rest → dro
 drop_one n i xs rest e =
     sym (drop-drop 1 n xs) ∙ ap (λ (ys : List ℕ). drop 1 ys) e
 
-children_ready : (l : LineData) (nodes : List Node) (at : ℕ) (path : List Decision) (question : Question) (cs : List ℕ) (bound : ℕ) → IsTree nodes → IsReady l nodes path at → node_at nodes at ≡ Split question cs → IsWholeSplit l path question cs
+children_ready : (l : LineData) (nodes : List Node) (at : ℕ) (path : List Decision) (question : Question) (cs : List ℕ) (bound : ℕ) → IsTree nodes
+    → IsReady l nodes path at → node_at nodes at ≡ Split question cs → IsWholeSplit l path question cs
     → (k : ℕ) → k < length cs → IsReady l nodes (path ++ (let d : Decision = record { question = question; child = 0 + k } in d) ∷ []) (get_or cs k 0)
 children_ready l nodes at path question cs bound tree here split whole k lt =
     let d : Decision = record { question = question; child = 0 + k } in
@@ -166,7 +183,9 @@ children_ready l nodes at path question cs bound tree here split whole k lt =
       there = (branch_later nodes at d (get_or cs k 0) tree b).1;
     }
 
-pub pushed_split : (l : LineData) (nodes : List Node) (bound n at : ℕ) (path : List Decision) (waiting pushed : List Waiting) (question : Question) (cs : List ℕ) → IsTree nodes → IsOnWay l nodes bound n at path waiting → node_at nodes at ≡ Split question cs
+pub pushed_split : (l : LineData) (nodes : List Node) (bound n at : ℕ) (path : List Decision) (waiting pushed : List Waiting) (question : Question)
+    (cs : List ℕ)
+    → IsTree nodes → IsOnWay l nodes bound n at path waiting → node_at nodes at ≡ Split question cs
     → Shows l path (node_at nodes at) bound → pushed ≡ waiting ++ reverse (waits_of (length path) question 0 cs) → IsPushed l nodes bound n path pushed
 pushed_split l nodes bound n at path waiting pushed question cs tree way split shows is =
     let ws = waits_of (length path) question 0 cs in
@@ -174,7 +193,8 @@ pushed_split l nodes bound n at path waiting pushed question cs tree way split s
     ap (λ (xs : List Waiting). reverse xs) is ∙ reverse-append waiting (reverse ws) ∙ ap (λ (xs : List Waiting). xs ++ reverse waiting) (reverse-reverse ws) in
     let kids : children_of (node_at nodes at) ≡ cs = ap children_of split in
     let name : Waiting → ℕ = λ w. w.node in
-    let names : map name (ws ++ reverse waiting) ≡ cs ++ map name (reverse waiting) = map-append name ws (reverse waiting) ∙ ap (λ (xs : List ℕ). xs ++ map name (reverse waiting)) (nodes-waits (length path) question 0 cs) in
+    let names : map name (ws ++ reverse waiting) ≡ cs ++ map name (reverse waiting) =
+    map-append name ws (reverse waiting) ∙ ap (λ (xs : List ℕ). xs ++ map name (reverse waiting)) (nodes-waits (length path) question 0 cs) in
     let over = drop_one n at (preorder nodes) _ (over_here l nodes bound n at path waiting tree way) in
     let S : Node → Type 0 = λ node. Shows l path node bound in
     let whole : IsWholeSplit l path question cs = subst S split shows in
@@ -183,11 +203,15 @@ pushed_split l nodes bound n at path waiting pushed question cs tree way split s
       left_over =
           over ∙ ap (λ (xs : List ℕ). flat_map (below nodes) (xs ++ map name (reverse waiting))) kids
           ∙ ap (λ (xs : List ℕ). flat_map (below nodes) xs) (sym names) ∙ ap (λ (xs : List Waiting). flat_map (below nodes) (map name xs)) (sym turned);
-      ready = subst A (sym turned) (ready_children l nodes path question 0 cs (reverse waiting) (children_ready l nodes at path question cs bound tree way.here split whole) way.ready);
+      ready =
+          subst A (sym turned) (ready_children l nodes path question 0 cs (reverse waiting)
+          (children_ready l nodes at path question cs bound tree way.here split whole) way.ready);
       shown = shown_more l nodes bound n at path waiting tree way shows;
     }
 
-pub pushed_leaf : (l : LineData) (nodes : List Node) (bound n at : ℕ) (path : List Decision) (waiting : List Waiting) → IsTree nodes → IsOnWay l nodes bound n at path waiting → children_of (node_at nodes at) ≡ [] → Shows l path (node_at nodes at) bound → IsPushed l nodes bound n path waiting
+pub pushed_leaf : (l : LineData) (nodes : List Node) (bound n at : ℕ) (path : List Decision) (waiting : List Waiting) → IsTree nodes
+    → IsOnWay l nodes bound n at path waiting → children_of (node_at nodes at) ≡ [] → Shows l path (node_at nodes at) bound
+    → IsPushed l nodes bound n path waiting
 pushed_leaf l nodes bound n at path waiting tree way none shows =
     let name : Waiting → ℕ = λ w. w.node in
     let over = drop_one n at (preorder nodes) _ (over_here l nodes bound n at path waiting tree way) in
@@ -198,7 +222,8 @@ pushed_leaf l nodes bound n at path waiting tree way none shows =
     }
 
 -- the next node is taken
-pub way_on : (l : LineData) (nodes : List Node) (bound n : ℕ) (path : List Decision) (pushed popped : List Waiting) (w : Waiting) (next : List Decision) → IsPushed l nodes bound n path pushed → pushed ≡ popped ++ w ∷ [] → next ≡ path_of path w → IsOnWay l nodes bound (n + 1) w.node next popped
+pub way_on : (l : LineData) (nodes : List Node) (bound n : ℕ) (path : List Decision) (pushed popped : List Waiting) (w : Waiting) (next : List Decision)
+    → IsPushed l nodes bound n path pushed → pushed ≡ popped ++ w ∷ [] → next ≡ path_of path w → IsOnWay l nodes bound (n + 1) w.node next popped
 way_on l nodes bound n path pushed popped w next p e is =
     let turned : reverse pushed ≡ w ∷ reverse popped = ap (λ (xs : List Waiting). reverse xs) e ∙ reverse-append popped (w ∷ []) in
     let A : List Waiting → Type 0 = λ xs. AreReady l nodes path xs in
@@ -214,7 +239,8 @@ way_on l nodes bound n path pushed popped w next p e is =
     }
 
 -- no node waits: the tree proves the bound
-pub way_ends : (l : LineData) (nodes : List Node) (bound n : ℕ) (path : List Decision) (pushed : List Waiting) → IsTree nodes → IsPushed l nodes bound n path pushed → pushed ≡ [] → Proves l nodes bound
+pub way_ends : (l : LineData) (nodes : List Node) (bound n : ℕ) (path : List Decision) (pushed : List Waiting) → IsTree nodes
+    → IsPushed l nodes bound n path pushed → pushed ≡ [] → Proves l nodes bound
 way_ends l nodes bound n path pushed tree p none i q lt leads =
     let name : Waiting → ℕ = λ v. v.node in
     let over : drop (n + 1) (preorder nodes) ≡ [] = p.left_over ∙ ap (λ (xs : List Waiting). flat_map (below nodes) (map name (reverse xs))) none in
@@ -223,34 +249,56 @@ way_ends l nodes bound n path pushed tree p none i q lt leads =
     p.shown m i q (omega (arith, there, size, length-drop (n + 1) (preorder nodes))) (record { there = there; is = is; leads = leads })
 
 -- one isn't past the last node
-pub way_within : (l : LineData) (nodes : List Node) (bound n at : ℕ) (path : List Decision) (waiting : List Waiting) → IsTree nodes → IsOnWay l nodes bound n at path waiting → n < length nodes
+pub way_within : (l : LineData) (nodes : List Node) (bound n at : ℕ) (path : List Decision) (waiting : List Waiting) → IsTree nodes
+    → IsOnWay l nodes bound n at path waiting → n < length nodes
 way_within l nodes bound n at path waiting tree way =
     omega (arith, (stands_here l nodes bound n at path waiting tree way).there, preorder_short nodes tree)
 
--- a node that is no split has no children
-pub no_children : (node : Node) → ((question : Question) (children : List ℕ) → node ≡ Split question children → ⊥) → children_of node ≡ []
-no_children (Split question children) none = absurd (none question children refl)
-no_children (Closed low high) none = refl
-no_children (Stuck m) none = refl
-no_children (Solved low) none = refl
-no_children (Left low) none = refl
+-- a node that has a text has few children
+few_asked : (single : Bool) (question : Question) (count : ℕ) → IsQuestionText single question count → count ≤ 6
+few_asked single (Choose v) count text = text.2
+few_asked single (TankOrder a b q) count text = omega (arith, text.3)
+few_asked single (HoistOrder a b q) count text = omega (arith, text.3)
+few_asked single (Assign m) count text = text.1
 
--- both at what the code reads
-pub pushed_split_as : (l : LineData) (nodes : List Node) (bound n at : ℕ) (path slice : List Decision) (waiting pushed : List Waiting) (node : Node) (question : Question) (cs kids : List ℕ) (above : ℕ) → IsTree nodes → IsOnWay l nodes bound n at path waiting
-    → node ≡ node_at nodes at → node ≡ Split question cs → slice ≡ path → kids ≡ cs → above ≡ length path → Shows l slice node bound → pushed ≡ waiting ++ reverse (waits_of above question 0 kids) → IsPushed l nodes bound n path pushed
-pushed_split_as l nodes bound n at path slice waiting pushed node question cs kids above tree way read split same same_kids up shows is =
+pub few_children : (single : Bool) (node : Node) → IsNodeText single node → length (children_of node) ≤ 6
+few_children single (Split question children) text = few_asked single question (length children) text
+few_children single (Closed low high) text = omega arith
+few_children single (Stuck m) text = omega arith
+few_children single (Solved low) text = omega arith
+few_children single (Left low) text = omega arith
+
+-- a node's children, at what the code reads
+pushed_none : (l : LineData) (nodes : List Node) (bound n at : ℕ) (path : List Decision) (waiting pushed : List Waiting) → IsTree nodes
+    → IsOnWay l nodes bound n at path waiting → children_of (node_at nodes at) ≡ [] → Shows l path (node_at nodes at) bound → pushed ≡ waiting ++ []
+    → IsPushed l nodes bound n path pushed
+pushed_none l nodes bound n at path waiting pushed tree way none shows is =
+    let P : List Waiting → Type 0 = λ ws. IsPushed l nodes bound n path ws in
+    subst P (sym (is ∙ append-nil waiting)) (pushed_leaf l nodes bound n at path waiting tree way none shows)
+
+pushed_at : (l : LineData) (nodes : List Node) (bound n at : ℕ) (path : List Decision) (waiting pushed : List Waiting) (node : Node) → IsTree nodes
+    → IsOnWay l nodes bound n at path waiting → node_at nodes at ≡ node → Shows l path (node_at nodes at) bound
+    → pushed ≡ waiting ++ reverse (waits_below (length path) node) → IsPushed l nodes bound n path pushed
+pushed_at l nodes bound n at path waiting pushed (Split question cs) tree way e shows is =
+    pushed_split l nodes bound n at path waiting pushed question cs tree way e shows is
+pushed_at l nodes bound n at path waiting pushed (Closed low high) tree way e shows is =
+    pushed_none l nodes bound n at path waiting pushed tree way (ap children_of e) shows is
+pushed_at l nodes bound n at path waiting pushed (Stuck m) tree way e shows is =
+    pushed_none l nodes bound n at path waiting pushed tree way (ap children_of e) shows is
+pushed_at l nodes bound n at path waiting pushed (Solved low) tree way e shows is =
+    pushed_none l nodes bound n at path waiting pushed tree way (ap children_of e) shows is
+pushed_at l nodes bound n at path waiting pushed (Left low) tree way e shows is =
+    pushed_none l nodes bound n at path waiting pushed tree way (ap children_of e) shows is
+
+pub pushed_node : (l : LineData) (nodes : List Node) (bound n at : ℕ) (path slice : List Decision) (waiting pushed : List Waiting) (node : Node) (above : ℕ)
+    → IsTree nodes → IsOnWay l nodes bound n at path waiting → node ≡ node_at nodes at → slice ≡ path → above ≡ length slice → Shows l slice node bound
+    → pushed ≡ waiting ++ reverse (waits_below above node) → IsPushed l nodes bound n path pushed
+pushed_node l nodes bound n at path slice waiting pushed node above tree way read same up shows is =
     let S : Node → Type 0 = λ x. Shows l path x bound in
     let D : List Decision → Type 0 = λ ds. Shows l ds node bound in
-    let waits : List ℕ → ℕ → List Waiting = λ xs k. waiting ++ reverse (waits_of k question 0 xs) in
-    pushed_split l nodes bound n at path waiting pushed question cs tree way (sym read ∙ split) (subst S read (subst D same shows))
-    (is ∙ ap (λ (xs : List ℕ). waits xs above) same_kids ∙ ap (λ (k : ℕ). waits cs k) up)
-
-pub pushed_leaf_as : (l : LineData) (nodes : List Node) (bound n at : ℕ) (path slice : List Decision) (waiting : List Waiting) (node : Node) → IsTree nodes → IsOnWay l nodes bound n at path waiting
-    → node ≡ node_at nodes at → ((question : Question) (children : List ℕ) → node ≡ Split question children → ⊥) → slice ≡ path → Shows l slice node bound → IsPushed l nodes bound n path waiting
-pushed_leaf_as l nodes bound n at path slice waiting node tree way read none same shows =
-    let S : Node → Type 0 = λ x. Shows l path x bound in
-    let D : List Decision → Type 0 = λ ds. Shows l ds node bound in
-    pushed_leaf l nodes bound n at path waiting tree way (sym (ap children_of read) ∙ no_children node none) (subst S read (subst D same shows))
+    let depth : above ≡ length path = up ∙ ap (λ (ds : List Decision). length ds) same in
+    pushed_at l nodes bound n at path waiting pushed node tree way (sym read) (subst S read (subst D same shows))
+    (is ∙ ap (λ (k : ℕ). waiting ++ reverse (waits_below k node)) depth)
 
 pub empty : (ws : List Waiting) → length ws ≡ 0 → ws ≡ []
 empty [] e = refl

@@ -6,10 +6,10 @@ use Rattle.choice_tree.specs.declared.question.Decision.{Decision}
 use Rattle.choice_tree.specs.declared.constraint.Constraint.{Constraint}
 use Rattle.choice_tree.specs.declared.node.Node.{Node}
 use Rattle.choice_tree.specs.declared.node.Node.TheVariants as nodes
-use Rattle.period_constraints.specs.Tanks.{IsStuck}
-use Rattle.period_constraints.specs.Constraints.{IsConstraint, arc_of}
-use Rattle.period_constraints.specs.Proves.{IsWholeSplit, RefutesPeriod, sum_w, sum_q}
-use Rattle.cert_checker.specs.declared.reason.Sums.{Sums}
+use Rattle.path_constraints.specs.Tanks.{IsStuck}
+use Rattle.path_constraints.specs.Constraints.{IsConstraint, arc_of}
+use Rattle.path_constraints.specs.Proves.{IsWholeSplit, RefutesPeriod, sum_w, sum_q}
+use Rattle.cycle_walk.specs.declared.sums.Sums.{Sums}
 use Rattle.cert_checker.specs.declared.reason.Reason.{Reason}
 use Rattle.cert_checker.specs.declared.reason.Reason.TheVariants.{TimetableMissing, TimetableExtra, Bound, Splits, LeftNode, NoLeft, Fault, Question, Stuck, Token, Joint, Period}
 use Rattle.cert_checker.specs.Walks.{HasWalks, low_of, high_of, walks_of, tokens_of, followers_of, token_at}

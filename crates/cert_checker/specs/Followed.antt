@@ -1,12 +1,12 @@
 -- What is known of a walk once it was followed along the constraints of its path.
-use Rattle.std.specs.Prelude.{◌≡◌, ℕ, ◌<◌, ◌≤◌, ◌⊎◌, List, length, Option, Some, None, MatchOption, unsigned_abs}
+use Rattle.std.specs.Prelude.{◌≡◌, ℕ, ◌<◌, ◌≤◌, ◌⊎◌, List, length, Option, Some, None, MatchOption}
 use Rattle.hoist_base.specs.LineData.{LineData}
-use Rattle.longest_path.specs.declared.systems.Arc.{Arc}
 use Rattle.longest_path.specs.System.{Refutes}
 use Rattle.choice_tree.specs.declared.question.Decision.{Decision}
 use Rattle.choice_tree.specs.declared.constraint.Constraint.{Constraint}
-use Rattle.period_constraints.specs.Constraints.{IsConstraint, arc_of}
-use Rattle.cert_checker.specs.declared.reason.Sums.{Sums}
+use Rattle.path_constraints.specs.Constraints.{IsConstraint, arc_of}
+use Rattle.cycle_walk.specs.declared.sums.Sums.{Sums}
+use Rattle.cycle_walk.specs.Refuting as walk
 use Rattle.cert_checker.specs.declared.walks.Followed.{Followed}
 use Rattle.cert_checker.specs.Walks.{followers, token_at}
 use Rattle.cert_checker.specs.Flaws.{sums_of}
@@ -20,7 +20,7 @@ Gives (Some s) t = Refutes s.w s.q t
 
 abbrev pub AreSmall : Option Sums → Type 0
 AreSmall None = Unit {0}
-AreSmall (Some s) = (unsigned_abs s.w ≤ 10000000000000) × (unsigned_abs s.q ≤ 10000000000000)
+AreSmall (Some s) = walk.AreSmall s
 
 -- all periods from 1 on and before this one are refuted by one of the two
 abbrev pub AllGiven : Option Sums → Option Sums → ℕ → Type 0
@@ -33,10 +33,6 @@ IsLeastUngiven low high bound answer =
     (λ p. (1 ≤ p) × (p < bound) × (Gives low p → ⊥) × (Gives high p → ⊥) × AllGiven low high p)
 
 -- ---- one walk
-
--- a constraint of a size that keeps the sums of a thousand in 64 bits
-abbrev pub IsSmallArc : Arc → Type 0
-IsSmallArc a = (unsigned_abs a.w ≤ 10000000) × (unsigned_abs a.q ≤ 1000000000)
 
 -- constraint j is not on the path, and all before it are
 abbrev pub IsFirstStray : LineData → List Decision → List Constraint → ℕ → Type 0

@@ -5,8 +5,8 @@ use Rattle.hoist_base.specs.LineData.{LineData}
 use Rattle.timetable.specs.Faults.{IsLess}
 use Rattle.choice_tree.specs.declared.question.Decision.{Decision}
 use Rattle.choice_tree.specs.declared.node.Node.{Node}
-use Rattle.period_constraints.specs.Proves.{Shows}
-use Rattle.cert_checker.specs.declared.reason.Sums.{Sums}
+use Rattle.path_constraints.specs.Proves.{Shows}
+use Rattle.cycle_walk.specs.declared.sums.Sums.{Sums}
 use Rattle.cert_checker.specs.declared.reason.Reason.{Reason}
 use Rattle.cert_checker.specs.declared.reason.Reason.TheVariants as reasons
 use Rattle.cert_checker.specs.declared.walks.Followed.{Followed}

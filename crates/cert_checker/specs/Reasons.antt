@@ -6,7 +6,7 @@ use Rattle.timetable.specs.Faults.{HasFault}
 use Rattle.choice_tree.specs.declared.question.Decision.{Decision}
 use Rattle.choice_tree.specs.declared.node.Node.{Node}
 use Rattle.choice_tree.specs.declared.node.Node.TheVariants as nodes
-use Rattle.choice_tree.specs.Nodes.{node_at, IsLeft, IsPathTo}
+use Rattle.choice_tree.specs.Nodes.{node_at, IsLeft, NoneLeft, IsPathTo}
 use Rattle.choice_tree.specs.Trees.{preorder}
 use Rattle.answer_text.specs.declared.answer.Verdict.{Verdict}
 use Rattle.answer_text.specs.declared.answer.Verdict.TheVariants.{Optimal, Nothing, Unfinished}
@@ -45,10 +45,6 @@ number_at nodes n = get_or (preorder nodes) n 0
 -- node n in preorder is left
 abbrev pub IsLeftNode : List Node → ℕ → Type 0
 IsLeftNode nodes n = (n < length (preorder nodes)) × IsLeft (node_at nodes (number_at nodes n))
-
--- no node is
-abbrev pub NoneLeft : List Node → Type 0
-NoneLeft nodes = (i : ℕ) → i < length nodes → IsLeft (node_at nodes i) → ⊥
 
 -- ---- its nodes
 

@@ -1,14 +1,14 @@
 -- The rules that an accepted answer keeps.
-use Rattle.std.specs.Prelude.{◌≡◌, ℕ, ◌+◌, ◌≤◌, ◌<◌, length, IfSome, Option, Some, None}
+use Rattle.std.specs.Prelude.{◌≡◌, ℕ, ◌+◌, ◌≤◌, IfSome, Option, Some, None}
 use Rattle.hoist_base.specs.LineData.{LineData}
 use Rattle.line_model.specs.Legal.{IsLegal}
 use Rattle.timetable.specs.TimetableData.{TimetableData, timetable_of}
-use Rattle.choice_tree.specs.Nodes.{node_at, IsLeft}
-use Rattle.period_constraints.specs.Proves.{Proves}
+use Rattle.choice_tree.specs.Nodes.{NoneLeft, SomeLeft}
+use Rattle.path_constraints.specs.Proves.{Proves}
 use Rattle.answer_text.specs.declared.answer.Verdict.{Verdict}
 use Rattle.answer_text.specs.declared.answer.Verdict.TheVariants.{Optimal, Nothing, Unfinished}
 use Rattle.answer_text.specs.declared.answer.Answer.{Answer}
-use Rattle.cert_checker.specs.Reasons.{split_count, NoneLeft}
+use Rattle.cert_checker.specs.Reasons.{split_count}
 
 -- an optimal answer has a timetable of its bound; one that says that there is none has no timetable, and its bound is one
 -- more than the greatest period of a search; the bound of an open one is not above its period, or that number
@@ -24,7 +24,7 @@ IsClaim l Unfinished (Some t) bound = bound ≤ t.period
 abbrev pub HasItsLeft : Answer → Verdict → Type 0
 HasItsLeft a Optimal = NoneLeft a.tree
 HasItsLeft a Nothing = NoneLeft a.tree
-HasItsLeft a Unfinished = (i : ℕ) × (i < length a.tree) × IsLeft (node_at a.tree i)
+HasItsLeft a Unfinished = SomeLeft a.tree
 
 pub record KeepsRules (l : LineData) (a : Answer) : Type 0 where
   pub claim : IsClaim l a.verdict a.timetable a.bound

@@ -3,7 +3,8 @@ use Rattle.std.specs.Prelude.{ℕ, ◌+◌, ◌<◌, ◌≤◌, List, [], ◌∷
 use Rattle.hoist_base.specs.LineData.{LineData}
 use Rattle.choice_tree.specs.declared.question.Question.{Question}
 use Rattle.choice_tree.specs.declared.node.Node.{Node}
-use Rattle.period_constraints.specs.Proves.{Proves}
+use Rattle.choice_tree.specs.declared.node.Node.TheVariants.{Split, Closed, Stuck, Solved, Left}
+use Rattle.path_constraints.specs.Proves.{Proves}
 use Rattle.answer_text.specs.declared.answer.Answer.{Answer}
 use Rattle.cert_checker.specs.declared.reason.Reason.{Reason}
 use Rattle.cert_checker.specs.declared.tree.Waiting.{Waiting}
@@ -18,6 +19,14 @@ waits_of above question m [] = []
 waits_of above question m (c ∷ cs) =
     (record { node = c; above = above; decision = record { question = question; child = m } })
     ∷ waits_of above question (m + 1) cs
+
+-- the children of a node; a leaf has none
+abbrev pub waits_below : ℕ → Node → List Waiting
+waits_below above (Split question children) = waits_of above question 0 children
+waits_below above (Closed low high) = []
+waits_below above (Stuck m) = []
+waits_below above (Solved low) = []
+waits_below above (Left low) = []
 
 -- node n in preorder has a flaw, and no node before it, and none of its own before that one
 pub record IsFirstFlawed (l : LineData) (nodes : List Node) (bound : ℕ) (r : Reason) : Type 0 where

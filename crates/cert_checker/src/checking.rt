@@ -26,8 +26,8 @@ fn claim_of(a: &Answer) -> Claimed
 
 /// Checks an answer to a line: whether it keeps every rule, or else the first reason to reject it.
 ///
-/// The answer is one that has a text for this line. An accepted answer's timetable, where it has one, is legal, its tree
-/// proves its bound, and so no legal timetable of the line has a smaller period.
+/// The answer is one that has a text for this line. An accepted answer's timetable, where it has one, is legal, its
+/// tree proves its bound, and so no legal timetable of the line has a smaller period.
 pub fn check<R: Threads + Sync>(
     _rt: &R,
     alloc: Global,

@@ -8,7 +8,6 @@ pub mod laws;
 mod nodes;
 mod periods;
 mod reason;
-mod stuck;
 #[cfg(test)]
 mod tests;
 mod tree;
@@ -18,4 +17,5 @@ mod writable;
 
 pub use checked::{Checked, Claimed};
 pub use checking::check;
-pub use reason::{Reason, Sums};
+pub use cycle_walk::Sums;
+pub use reason::Reason;

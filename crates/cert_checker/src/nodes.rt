@@ -1,20 +1,23 @@
 // The rules of a node.
-ghost use Rattle.std.specs.Prelude.{◌≡◌, ℕ, ◌+◌, ◌≤◌, ◌<◌, List, MatchOption, option_map, Some, None, Bool};
+ghost use Rattle.std.specs.Prelude.{◌≡◌, ℕ, ◌+◌, ◌≤◌, ◌<◌, List, MatchOption, option_map, Some, None, Bool, IsTrue, ◌↔◌};
+ghost use Rattle.hoist_base.specs.LineData.{IsMove};
 ghost use Rattle.hoist_base.specs.Valid.{IsLine};
+ghost use Rattle.longest_path.specs.Bounds.{IsPeriod};
 ghost use Rattle.choice_tree.specs.declared.node.Node.{Node};
-ghost use Rattle.period_constraints.specs.Questions.{FitsPath};
-ghost use Rattle.period_constraints.specs.Proves.{IsWholeSplit};
+ghost use Rattle.path_constraints.specs.Questions.{FitsPath};
+ghost use Rattle.path_constraints.specs.Proves.{IsWholeSplit};
+ghost use Rattle.path_constraints.specs.Tanks.{IsStuck};
 ghost use Rattle.answer_text.specs.Nodes.{IsNodeText, IsWalkOr};
 ghost use Rattle.cert_checker.specs.Judged.{IsNodeAnswer, IsJudged, AreUsable, sums_in};
 ghost use Rattle.cert_checker.specs.Judged as judged;
 
 use crate::periods::first_open;
-use crate::reason::{Reason, Sums};
-use crate::stuck::is_stuck_move;
+use crate::reason::Reason;
 use crate::walks::{Followed, follow, follow_some};
 use choice_tree::{Decision, Node, Proof, Question};
+use cycle_walk::Sums;
 use hoist_base::{Line, MoveId};
-use period_constraints::{child_count, fits};
+use path_constraints::{child_count, fits, is_stuck};
 
 // How many constraints a walk has.
 fn count_of(followed: Option<Followed>) -> u32
@@ -63,7 +66,7 @@ fn first_loose(low: Option<Followed>, high: Option<Followed>) -> Option<u32>
 fn judge(low: Option<Followed>, high: Option<Followed>, bound: u32, node: u32) -> Option<Reason>
     requires low { AreUsable low }
     requires high { AreUsable high }
-    requires bound { (1 ≤ bound) × (bound ≤ 20001) }
+    requires bound { IsPeriod bound }
     ensures { IsJudged low high bound node result }
 {
     if let Some(place) = first_loose(low, high) {
@@ -98,6 +101,14 @@ fn split_reason(
     Some(Reason::Question { node })
 }
 
+// Whether this is a move of the line that no hoist may reach below the path.
+fn is_stuck_move(line: &Line, path: &[Decision], m: MoveId) -> bool
+    requires { FitsPath line.now path.now }
+    ensures { IsTrue result ↔ (IsMove line.now m.carrier m.step × IsStuck line.now path.now m.carrier m.step) }
+{
+    line.has_move(m) && is_stuck(line, path, m)
+}
+
 fn stuck_reason(line: &Line, path: &[Decision], m: MoveId, node: u32) -> Option<Reason>
     requires { FitsPath line.now path.now }
     ensures { (bound : ℕ) → IsNodeAnswer line.now path.now (Node.Stuck m) bound node result }
@@ -120,7 +131,7 @@ fn closed_reason(
     requires fits { FitsPath line.now path.now }
     requires low { IsWalkOr low.now }
     requires high { IsWalkOr high.now }
-    requires bound { (1 ≤ bound) × (bound ≤ 20001) }
+    requires bound { IsPeriod bound }
     ensures { IsNodeAnswer line.now path.now (Node.Closed low.now high.now) bound node result }
 {
     match follow_some(line, path, low) {
@@ -145,7 +156,7 @@ fn solved_reason(
     requires valid { IsLine line.now }
     requires fits { FitsPath line.now path.now }
     requires low { IsWalkOr (Some low.now) }
-    requires bound { (1 ≤ bound) × (bound ≤ 20001) }
+    requires bound { IsPeriod bound }
     ensures { IsNodeAnswer line.now path.now (Node.Solved low.now) bound node result }
 {
     match follow(line, path, low) {
@@ -164,7 +175,7 @@ fn left_reason(
     requires valid { IsLine line.now }
     requires fits { FitsPath line.now path.now }
     requires low { IsWalkOr low.now }
-    requires bound { (1 ≤ bound) × (bound ≤ 20001) }
+    requires bound { IsPeriod bound }
     ensures { IsNodeAnswer line.now path.now (Node.Left low.now) bound node result }
 {
     match follow_some(line, path, low) {
@@ -186,7 +197,7 @@ pub(crate) fn node_reason(
     requires valid { IsLine line.now }
     requires fits { FitsPath line.now path.now }
     requires text { IsNodeText single node.now }
-    requires bound { (1 ≤ bound) × (bound ≤ 20001) }
+    requires bound { IsPeriod bound }
     ensures { IsNodeAnswer line.now path.now node.now bound number result }
 {
     match node {

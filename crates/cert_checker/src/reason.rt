@@ -1,16 +1,10 @@
 // Reasons to reject an answer.
+use cycle_walk::Sums;
 use hoist_base::MoveId;
 use timetable::Fault;
 
-/// The sums of w, in ticks, and of q, in periods, along a walk.
-#[derive(Clone, Copy, Debug, PartialEq, Eq)]
-pub struct Sums {
-    pub w: i64,
-    pub q: i64,
-}
-
-/// Why an answer is rejected. The rules of the answer as a whole stand first, in their order; then each node of the tree,
-/// in preorder and numbered from 0, is tried by the rules of nodes in theirs.
+/// Why an answer is rejected. The rules of the answer as a whole stand first, in their order; then each node of the
+/// tree, in preorder and numbered from 0, is tried by the rules of nodes in theirs.
 ///
 /// A `place` counts the constraints of a leaf from 0, through its low walk and then its high one.
 #[derive(Clone, Copy, Debug, PartialEq, Eq)]
@@ -56,8 +50,8 @@ pub enum Reason {
         node: u32,
         place: u32,
     },
-    /// No walk of the leaf refutes this period, which is below the bound. It is the least; `low` and `high` are the sums
-    /// of the walks that are there.
+    /// No walk of the leaf refutes this period, which is below the bound. It is the least; `low` and `high` are the
+    /// sums of the walks that are there.
     Period {
         node: u32,
         period: u32,

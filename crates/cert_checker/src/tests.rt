@@ -27,18 +27,20 @@ const SECOND: Constraint = Constraint::Decided { i: 1 };
 
 const FOURTH: Constraint = Constraint::Decided { i: 3 };
 
-// What an answer says beside its timetable and its tree.
+// What an answer says beside its tree: its timetable, where it has one, is named by where the first hoist begins.
 #[derive(Clone, Copy)]
 struct Said {
     verdict: Verdict,
     bound: u32,
     splits: u32,
+    begin: Option<u32>,
 }
 
 const OPTIMAL: Said = Said {
     verdict: Verdict::Optimal,
     bound: 9,
     splits: 1,
+    begin: Some(0),
 };
 
 // The walks of the leaves below one question: of a closed leaf, and of a solved one or of one that is left.
@@ -71,23 +73,25 @@ fn are_small(path: &[u32]) -> bool
     true
 }
 
-// The timetable of period 9 of lines with a bath and two hoists, with these positions.
-fn timetable_of(alloc: Global, line: &Line, path: &[u32]) -> Option<Timetable>
+// The timetable of period 9 of lines with a bath and two hoists, legal where the first hoist begins at position 0.
+fn timetable_of(alloc: Global, line: &Line, begin: u32) -> Option<Timetable>
     ensures { IfSome result (λ t. IsTimetableOf line.now t × HasSmallPath t) }
 {
-    let parts = parts_of(alloc, path).ok()?;
+    let parts = parts_of(alloc, begin).ok()?;
     if !parts.fits(line) || !are_small(parts.path.as_slice()) {
         return None;
     }
     Some(Timetable::new(line, parts))
 }
 
-fn parts_of(alloc: Global, path: &[u32]) -> Result<TimetableParts, AllocError> {
+fn parts_of(alloc: Global, begin: u32) -> Result<TimetableParts, AllocError> {
+    let mut positions = PATH;
+    positions[0] = begin;
     let put = Vec::from_slice(alloc, &[0])?;
     let off = Vec::from_slice(alloc, &[15])?;
     let start = Vec::from_slice(alloc, &[0, 10])?;
     let hoist = Vec::from_slice(alloc, &[0, 1])?;
-    let path = Vec::from_slice(alloc, path)?;
+    let path = Vec::from_slice(alloc, &positions)?;
     let tank = Vec::from_slice(alloc, &[0, 1, 2])?;
     Ok(TimetableParts {
         period: 9,
@@ -175,7 +179,6 @@ fn outcome<R: Threads + Sync>(
     alloc: Global,
     line: &Line,
     said: Said,
-    path: Option<&[u32]>,
     tree: Tree,
 ) -> Option<Checked> {
     if said.bound < 1 || said.bound > 20_001 || said.splits > 1_000_000_000 {
@@ -184,9 +187,9 @@ fn outcome<R: Threads + Sync>(
     if !is_tree(line, &tree) {
         return None;
     }
-    let timetable = match path {
+    let timetable = match said.begin {
         None => None,
-        Some(path) => Some(timetable_of(alloc, line, path)?),
+        Some(begin) => Some(timetable_of(alloc, line, begin)?),
     };
     let answer = Answer {
         verdict: said.verdict,
@@ -262,10 +265,7 @@ fn walks_of_two_hoists(rt: HostRuntime) -> Result<(), Fail> {
     for i in 0..rows.len() {
         let (walks, want) = rows[i];
         let tree = tree_of(alloc, first_of_two(-1), walks)?;
-        assert_eq!(rt;
-            outcome(&rt, alloc, &line, OPTIMAL, Some(&PATH), tree),
-            want
-        );
+        assert_eq!(rt; outcome(&rt, alloc, &line, OPTIMAL, tree), want);
     }
     Ok(())
 }
@@ -282,16 +282,32 @@ fn claims_of_two_hoists(rt: HostRuntime) -> Result<(), Fail> {
         verdict: Verdict::Unfinished,
         ..OPTIMAL
     };
+    let fault = Fault::Track {
+        hoist: 0,
+        tick: 0,
+        at: 7,
+    };
     let rows = [
-        (OPTIMAL, false, Reason::TimetableMissing),
-        (nothing, true, Reason::TimetableExtra),
-        (nothing, false, Reason::Bound { seen: 9, want: 101 }),
+        (
+            Said {
+                begin: None,
+                ..OPTIMAL
+            },
+            Reason::TimetableMissing,
+        ),
+        (nothing, Reason::TimetableExtra),
+        (
+            Said {
+                begin: None,
+                ..nothing
+            },
+            Reason::Bound { seen: 9, want: 101 },
+        ),
         (
             Said {
                 bound: 8,
                 ..OPTIMAL
             },
-            true,
             Reason::Bound { seen: 8, want: 9 },
         ),
         (
@@ -299,86 +315,55 @@ fn claims_of_two_hoists(rt: HostRuntime) -> Result<(), Fail> {
                 splits: 2,
                 ..OPTIMAL
             },
-            true,
             Reason::Splits { seen: 2, count: 1 },
         ),
-        (unfinished, true, Reason::NoLeft),
+        (unfinished, Reason::NoLeft),
         (
             Said {
                 bound: 10,
                 ..unfinished
             },
-            true,
             Reason::Bound { seen: 10, want: 9 },
+        ),
+        (
+            Said {
+                begin: Some(7),
+                ..OPTIMAL
+            },
+            Reason::Fault(fault),
         ),
     ];
     for i in 0..rows.len() {
-        let (said, timed, reason) = rows[i];
+        let (said, reason) = rows[i];
         let tree = tree_of(alloc, first_of_two(-1), WALKS)?;
-        let path: Option<&[u32]> = if timed { Some(&PATH) } else { None };
-        assert_eq!(rt;
-            outcome(&rt, alloc, &line, said, path, tree),
-            rejected(reason)
-        );
+        assert_eq!(rt; outcome(&rt, alloc, &line, said, tree), rejected(reason));
     }
     Ok(())
 }
 
+// The root alone, left; and a tree that asks for the hoist of a move that only one hoist reaches.
 #[test]
-fn open_question_and_fault(rt: HostRuntime) -> Result<(), Fail> {
+fn open_root_and_unfit_question(rt: HostRuntime) -> Result<(), Fail> {
     let alloc = rt.alloc();
     let line = two_hoists(alloc).ok_or("no line")?;
     let open = Said {
         verdict: Verdict::Unfinished,
         bound: 1,
         splits: 0,
+        begin: None,
     };
     let tree = Tree::new(alloc)?;
     assert_eq!(rt;
-        outcome(&rt, alloc, &line, open, None, tree),
+        outcome(&rt, alloc, &line, open, tree),
         accepted(open, None)
     );
-    let tank = Question::Choose {
-        v: VisitId {
-            carrier: 0,
-            stage: 1,
-        },
+    let m = MoveId {
+        carrier: 0,
+        step: 0,
     };
-    assert!(rt;
-        outcome(
-            &rt,
-            alloc,
-            &line,
-            OPTIMAL,
-            Some(&PATH),
-            tree_of(alloc, tank, WALKS)?
-        )
-        .is_none()
-    );
-    let assign = Question::Assign {
-        m: MoveId {
-            carrier: 0,
-            step: 0,
-        },
-    };
-    let question = Reason::Question { node: 0 };
-    let tree = tree_of(alloc, assign, WALKS)?;
-    assert_eq!(rt;
-        outcome(&rt, alloc, &line, OPTIMAL, Some(&PATH), tree),
-        rejected(question)
-    );
-    let mut path = PATH;
-    path[0] = 7;
-    let fault = Fault::Track {
-        hoist: 0,
-        tick: 0,
-        at: 7,
-    };
-    let tree = tree_of(alloc, first_of_two(-1), WALKS)?;
-    assert_eq!(rt;
-        outcome(&rt, alloc, &line, OPTIMAL, Some(&path), tree),
-        rejected(Reason::Fault(fault))
-    );
+    let tree = tree_of(alloc, Question::Assign { m }, WALKS)?;
+    let unfit = rejected(Reason::Question { node: 0 });
+    assert_eq!(rt; outcome(&rt, alloc, &line, OPTIMAL, tree), unfit);
     Ok(())
 }
 
@@ -408,7 +393,7 @@ fn stuck_moves_of_far_tank(rt: HostRuntime) -> Result<(), Fail> {
     for i in 0..rows.len() {
         let (m, want) = rows[i];
         let tree = choice_of(alloc, m, walks)?;
-        assert_eq!(rt; outcome(&rt, alloc, &line, said, Some(&PATH), tree), want);
+        assert_eq!(rt; outcome(&rt, alloc, &line, said, tree), want);
     }
     Ok(())
 }
@@ -421,11 +406,12 @@ fn left_leaves_of_slow_choice(rt: HostRuntime) -> Result<(), Fail> {
         verdict: Verdict::Unfinished,
         bound: 51,
         splits: 1,
+        begin: None,
     };
     let walk = [MIN, VISIT];
     let tree = left_choice(alloc, &walk)?;
     assert_eq!(rt;
-        outcome(&rt, alloc, &line, said, None, tree),
+        outcome(&rt, alloc, &line, said, tree),
         accepted(said, None)
     );
     let reason = Reason::Period {
@@ -435,9 +421,6 @@ fn left_leaves_of_slow_choice(rt: HostRuntime) -> Result<(), Fail> {
         high: None,
     };
     let tree = left_choice(alloc, &[REPEAT])?;
-    assert_eq!(rt;
-        outcome(&rt, alloc, &line, said, None, tree),
-        rejected(reason)
-    );
+    assert_eq!(rt; outcome(&rt, alloc, &line, said, tree), rejected(reason));
     Ok(())
 }

@@ -1,13 +1,14 @@
 // The nodes of a tree, one after another.
-ghost use Rattle.std.specs.Prelude.{◌≡◌, ◌≢◌, ℕ, ◌+◌, ◌≤◌, ◌<◌, ◌↔◌, ◌++◌, List, length, reverse, IsTrue, IfOk, OnOk, Some, None, MatchOption, All, filter};
+ghost use Rattle.std.specs.Prelude.{◌≡◌, ◌≢◌, ℕ, ◌+◌, ◌≤◌, ◌<◌, ◌↔◌, ◌++◌, List, length, reverse, IsTrue, IfOk, OnOk, Some, None, MatchOption};
 ghost use Rattle.hoist_base.specs.Valid.{IsLine};
-ghost use Rattle.choice_tree.specs.Nodes.{node_at, IsLeft};
+ghost use Rattle.longest_path.specs.Bounds.{IsPeriod};
+ghost use Rattle.choice_tree.specs.Nodes.{node_at, children_of, IsLeft, NoneLeft, SomeLeft};
 ghost use Rattle.choice_tree.specs.Trees.{IsTree, preorder};
-ghost use Rattle.answer_text.specs.Answers.{is_single};
+ghost use Rattle.hoist_base.specs.LineData.{is_single};
 ghost use Rattle.answer_text.specs.Nodes.{IsNodeText};
-ghost use Rattle.cert_checker.specs.Reasons.{split_count, NoneLeft, IsLeftNode, number_at};
+ghost use Rattle.cert_checker.specs.Reasons.{split_count, IsLeftNode, number_at};
 ghost use Rattle.cert_checker.specs.Reasons as reasons;
-ghost use Rattle.cert_checker.specs.Waiting.{waits_of, IsTreeAnswer};
+ghost use Rattle.cert_checker.specs.Waiting.{waits_of, waits_below, IsTreeAnswer};
 
 use crate::nodes::node_reason;
 use crate::reason::Reason;
@@ -23,7 +24,7 @@ struct Waiting {
     decision: Decision,
 }
 
-// Puts the children of a split on a stack, so that the first is taken first.
+// Puts the children of a question on a stack, so that the first is taken first.
 fn push_children(
     waiting: &mut Vec<Waiting>,
     question: Question,
@@ -49,6 +50,17 @@ fn push_children(
     Ok(())
 }
 
+// Puts the children of a node on a stack, so that the first is taken first; a leaf has none.
+fn push_below(waiting: &mut Vec<Waiting>, node: &Node, above: usize) -> Result<(), AllocError>
+    requires { length (children_of node.now) ≤ 6 }
+    ensures { OnOk result (waiting.new.items ≡ waiting.old.items ++ reverse (waits_below above node.now)) }
+{
+    if let Node::Split { question, children } = node {
+        push_children(waiting, *question, children.as_slice(), above)?;
+    }
+    Ok(())
+}
+
 /// The first flaw of the first node in preorder that has one; None where the tree proves the bound.
 ///
 /// The path is kept while the tree is gone through, and not made anew for each node.
@@ -60,7 +72,7 @@ pub(crate) fn first_flawed(
 ) -> Result<Option<Reason>, AllocError>
     requires valid { IsLine line.now }
     requires nodes { (i : ℕ) → i < length tree.now → IsNodeText (is_single line.now) (node_at tree.now i) }
-    requires bound { (1 ≤ bound) × (bound ≤ 20001) }
+    requires bound { IsPeriod bound }
     ensures { IfOk result (λ answer. IsTreeAnswer line.now tree.now bound answer) }
 {
     let mut path: Vec<Decision> = Vec::new(alloc);
@@ -71,9 +83,7 @@ pub(crate) fn first_flawed(
         if let Some(reason) = node_reason(line, path.as_slice(), node, bound, number) {
             return Ok(Some(reason));
         }
-        if let Node::Split { question, children } = node {
-            push_children(&mut waiting, *question, children.as_slice(), path.len())?;
-        }
+        push_below(&mut waiting, node, path.len())?;
         let Some(next) = waiting.pop() else {
             return Ok(None);
         };
@@ -112,7 +122,7 @@ pub(crate) fn count_splits(tree: &Tree) -> u32
 
 /// Whether a node of the tree is left.
 pub(crate) fn has_left(tree: &Tree) -> bool
-    ensures is_there { IsTrue result → (i : ℕ) × (i < length tree.now) × IsLeft (node_at tree.now i) }
+    ensures is_there { IsTrue result → SomeLeft tree.now }
     ensures none { (IsTrue result → ⊥) → NoneLeft tree.now }
     ensures valid { IsTree tree.now }
 {

@@ -1,22 +1,24 @@
 // Walks of constraints, followed along a path.
 ghost use Rattle.std.specs.Prelude.{◌≡◌, ◌<◌, ◌==◌, if◌then◌else◌, ◌↔◌, length, IsSome, IfSome, MatchResult};
+ghost use Rattle.hoist_base.specs.LineData.{move_count};
 ghost use Rattle.hoist_base.specs.Valid.{IsLine};
 ghost use Rattle.std.specs.Option.{option_or};
-ghost use Rattle.period_constraints.specs.Questions.{FitsPath};
-ghost use Rattle.period_constraints.specs.Constraints.{IsConstraint, arc_of};
+ghost use Rattle.longest_path.specs.System.{IsArc};
+ghost use Rattle.path_constraints.specs.Questions.{FitsPath};
+ghost use Rattle.path_constraints.specs.Constraints.{IsConstraint, arc_of};
 ghost use Rattle.answer_text.specs.Fields.{IsWalk};
 ghost use Rattle.answer_text.specs.Nodes.{IsWalkOr};
 ghost use Rattle.cert_checker.specs.Walks.{token_at};
-ghost use Rattle.cert_checker.specs.Followed.{IsSmallArc, IsFollowed, IsFollowedOr, IsFirstStray, IsFirstStrayOr};
+ghost use Rattle.cert_checker.specs.Followed.{IsFollowed, IsFollowedOr, IsFirstStray, IsFirstStrayOr};
 
-use crate::reason::Sums;
 use choice_tree::{Constraint, Decision, Proof};
+use cycle_walk::Sums;
 use hoist_base::Line;
 use longest_path::Arc;
-use period_constraints::constraint_of;
+use path_constraints::constraint_of;
 
-/// A walk whose constraints all are on the path: how many they are, their sums, and the first that doesn't end where the
-/// next one begins, or the last where it doesn't end where the first begins.
+/// A walk whose constraints all are on the path: how many they are, their sums, and the first that doesn't end where
+/// the next one begins, or the last where it doesn't end where the first begins.
 #[derive(Clone, Copy)]
 pub(crate) struct Followed {
     pub(crate) count: u32,
@@ -42,7 +44,7 @@ fn constraint_at(line: &Line, path: &[Decision], names: &[Constraint], j: u32) -
     requires there { j < length names.now }
     ensures named { IsSome result ↔ IsConstraint line.now path.now (token_at names.now j) }
     ensures value { IfSome result (λ arc. arc ≡ arc_of line.now path.now (token_at names.now j)) }
-    ensures small { IfSome result (λ arc. IsSmallArc arc) }
+    ensures arc { IfSome result (IsArc (move_count line.now)) }
 {
     constraint_of(line, path, names[j as usize])
 }

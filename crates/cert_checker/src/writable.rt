@@ -1,7 +1,7 @@
 // Whether an answer that a test builds by hand has a text for its line.
 ghost use Rattle.std.specs.Prelude.{◌≡◌, ℕ, ◌<◌, ◌≤◌, ◌↔◌, length, get_or, IsTrue, unsigned_abs};
 ghost use Rattle.choice_tree.specs.Nodes.{node_at};
-ghost use Rattle.answer_text.specs.Answers.{is_single};
+ghost use Rattle.hoist_base.specs.LineData.{is_single};
 ghost use Rattle.answer_text.specs.Fields.{IsPair, IsToken, IsWalk};
 ghost use Rattle.answer_text.specs.Nodes.{IsWalkOr, AreWalks, IsQuestionText, IsStuckText, IsNodeText};
 

@@ -13,4 +13,5 @@ returns-in-None c =
 pub returns-in-Some-first_open : goal.returns-in-Some-first_open
 returns-in-Some-first_open c =
     let least = rw (c.sums_of-low.ensures, c.sums_of-high.ensures) at c.in-Some-first_open.ensures in
-    rw (c.sums_of-low.ensures, c.sums_of-high.ensures) (judge_open c.args.low c.args.high c.args.bound c.args.node c.in-Some-first_open.period (sym c.in_default.ensures) least)
+    rw (c.sums_of-low.ensures, c.sums_of-high.ensures)
+    (judge_open c.args.low c.args.high c.args.bound c.args.node c.in-Some-first_open.period (sym c.in_default.ensures) least)

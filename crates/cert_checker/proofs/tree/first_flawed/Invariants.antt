@@ -1,4 +1,4 @@
-use Rattle.answer_text.specs.Answers.{is_single}
+use Rattle.hoist_base.specs.LineData.{is_single}
 use Rattle.cert_checker.proofs.TreeLemmas.{IsOnWay}
 use Rattle.cert_checker.proofs.tree.first_flawed.Given as goal
 

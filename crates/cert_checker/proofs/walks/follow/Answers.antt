@@ -3,7 +3,7 @@ use Rattle.std.proofs.lemmas.Int.{ints}
 use Rattle.std.proofs.lemmas.Bool.{false≢true}
 use Rattle.longest_path.specs.declared.systems.Arc.{Arc}
 use Rattle.choice_tree.specs.declared.constraint.Constraint.{Constraint}
-use Rattle.period_constraints.specs.Constraints.{arc_of}
+use Rattle.path_constraints.specs.Constraints.{arc_of}
 use Rattle.cert_checker.specs.Walks.{token_at}
 use Rattle.cert_checker.proofs.FollowLemmas.{along_start, along_more, along_all, whole_sums, sums_are}
 use Rattle.cert_checker.proofs.walks.follow.Goals as goal
@@ -13,18 +13,18 @@ loop-j-init c =
     let names = c.as_slice-names.ensures in
     let named = rw names at c.in-Some.ensures.named in
     let value = rw names at c.in-Some.ensures.value in
-    along_start c.args.line.now c.args.path.now c.args.walk.now c.in-Some.first _ _ c.requires.walk.some (named.0 refl) value c.in-Some.ensures.small
-    (omega (arith, ints, c.in-Some.ensures.small)) (omega (arith, ints, c.in-Some.ensures.small))
+    along_start c.args.line.now c.args.path.now c.args.walk.now _ c.in-Some.first _ _ c.requires.walk.some (named.0 refl) value c.in-Some.ensures.arc
+    (omega (arith, ints, c.in-Some.ensures.arc)) (omega (arith, ints, c.in-Some.ensures.arc))
 
 pub overflow_add-w : goal.overflow_add-w
 overflow_add-w c =
     let names : length c.as_slice-names.result.now ≡ length c.args.walk.now = ap (λ (ts : List Constraint). length ts) c.as_slice-names.ensures in
-    omega (arith, ints, names, c.loop-j.invariant.small_w, c.in-Some-constraint_at.ensures.small, c.loop-j-test.true, c.requires.walk.few)
+    omega (arith, ints, names, c.loop-j.invariant.small_w, c.in-Some-constraint_at.ensures.arc, c.loop-j-test.true, c.requires.walk.few)
 
 pub overflow_add-q : goal.overflow_add-q
 overflow_add-q c =
     let names : length c.as_slice-names.result.now ≡ length c.args.walk.now = ap (λ (ts : List Constraint). length ts) c.as_slice-names.ensures in
-    omega (arith, ints, names, c.loop-j.invariant.small_q, c.in-Some-constraint_at.ensures.small, c.loop-j-test.true, c.requires.walk.few)
+    omega (arith, ints, names, c.loop-j.invariant.small_q, c.in-Some-constraint_at.ensures.arc, c.loop-j-test.true, c.requires.walk.few)
 
 pub loop-j-preserved : goal.loop-j-preserved
 loop-j-preserved c =
@@ -32,9 +32,9 @@ loop-j-preserved c =
     let size : length c.as_slice-names.result.now ≡ length c.args.walk.now = ap (λ (ts : List Constraint). length ts) names in
     let named = rw names at c.in-Some-constraint_at.ensures.named in
     let value = rw names at c.in-Some-constraint_at.ensures.value in
-    let small = c.in-Some-constraint_at.ensures.small in
+    let small = c.in-Some-constraint_at.ensures.arc in
     let inv = c.loop-j.invariant in
-    along_more c.args.line.now c.args.path.now c.args.walk.now c.loop-j.j c.loop-j.end _ _ c.loop-j.loose c.in-Some-constraint_at.arc _ _ _ c.loop-j.auto.j
+    along_more c.args.line.now c.args.path.now c.args.walk.now c.loop-j.j c.loop-j.end _ _ c.loop-j.loose _ c.in-Some-constraint_at.arc _ _ _ c.loop-j.auto.j
     (omega (arith, size, c.loop-j-test.true)) inv (named.0 refl) value small
     (omega (arith, ints, size, inv.small_w, small, c.loop-j-test.true, c.requires.walk.few))
     (omega (arith, ints, size, inv.small_q, small, c.loop-j-test.true, c.requires.walk.few)) c.first_gap-loose.ensures
@@ -59,7 +59,9 @@ returns c =
       there = λ k lt. inv.there k (omega (arith, all, lt));
       sums = sums_are l path xs _ _ sums.0 sums.1;
       small = (omega (arith, inv.small_w, all, c.requires.walk.few), omega (arith, inv.small_q, all, c.requires.walk.few));
-      loose = along_all l path xs j c.loop-j.end _ _ c.loop-j.loose c.in-Some.first.from _ _ c.requires.walk.some all inv begin (omega (arith, size, all)) c.first_gap-loose-2.ensures;
+      loose =
+          along_all l path xs j c.loop-j.end _ _ c.loop-j.loose c.in-Some.first.from _ _ c.requires.walk.some all inv begin
+          (omega (arith, size, all)) c.first_gap-loose-2.ensures;
     }
 
 pub returns-in_default : goal.returns-in_default

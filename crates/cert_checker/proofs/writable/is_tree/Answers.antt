@@ -1,7 +1,7 @@
 use Rattle.std.proofs.Common.{Bool, subst, arith}
 use Rattle.choice_tree.specs.Nodes.{node_at}
 use Rattle.answer_text.specs.Nodes.{IsNodeText}
-use Rattle.answer_text.proofs.SingleLemmas.{single_is}
+use Rattle.hoist_base.proofs.SingleLemmas.{single_is}
 use Rattle.cert_checker.proofs.writable.is_tree.Goals as goal
 
 pub returns : goal.returns
