@@ -1,19 +1,13 @@
 -- What one write to a tank or a hoist keeps.
 use Rattle.std.proofs.Common.{◌≡◌, ℕ, Option, Some, None, ⊎_elim, sym, refl, ap, subst, ◌∙◌}
-use Rattle.std.specs.Prelude.{cond}
-use Rattle.std.proofs.lemmas.Bool.{cases_eq, ne_eqb, eq-eqb}
+use Rattle.std.proofs.lemmas.Bool.{cases_eq}
 use Rattle.tick_machine.specs.declared.frame.Carry.{Carry}
 use Rattle.tick_machine.specs.declared.frame.Hold.{Hold}
 use Rattle.tick_machine.specs.declared.frame.Rest.{Rest}
 use Rattle.tick_machine.specs.Scene.{with, hold_of}
+use Rattle.tick_machine.proofs.Writes.{with_same, with_other}
 use Rattle.startup_rundown.proofs.Plan.{Plan, IsVisit, IsMove}
 use Rattle.startup_rundown.proofs.Shown.{ShowsHolds, ShowsCarries, carry_of}
-
-pub with_same : {A : Type 0} (f : ℕ → A) (i : ℕ) (v : A) (j : ℕ) → i ≡ j → with f i v j ≡ v
-with_same f i v j e = ap (λ b. cond b v (f j)) (eq-eqb i j e)
-
-pub with_other : {A : Type 0} (f : ℕ → A) (i : ℕ) (v : A) (j : ℕ) → (i ≡ j → ⊥) → with f i v j ≡ f j
-with_other f i v j ne = ap (λ b. cond b v (f j)) (ne_eqb i j ne)
 
 -- the visit (c, k) is another one than (d, m)
 abbrev pub Other : ℕ → ℕ → ℕ → ℕ → Type 0
