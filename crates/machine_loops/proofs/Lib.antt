@@ -1,0 +1,15 @@
+pub mod StepBack
+pub mod StepOn
+pub mod StepStays
+pub mod StepFacts
+pub mod Raised
+pub mod Unrolled
+pub mod History
+pub mod Shown
+pub mod Legality
+pub mod Places
+pub mod Lives
+pub mod LoopLaws
+pub mod RuleLemmas
+pub mod CheckLemmas
+pub mod TestLemmas
