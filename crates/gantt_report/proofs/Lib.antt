@@ -1,0 +1,4 @@
+pub mod Rows
+pub mod Marking
+pub mod CarryLaw
+pub mod Cells
