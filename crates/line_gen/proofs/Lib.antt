@@ -1,0 +1,4 @@
+pub mod Drawn
+pub mod Parts
+pub mod Built
+pub mod ValidLaws

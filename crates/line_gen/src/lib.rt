@@ -1,0 +1,10 @@
+//! Lines by seed, to try a solver on.
+#![tactic(auto)]
+
+mod choices;
+mod draws;
+mod generator;
+#[cfg(test)]
+mod tests;
+
+pub use generator::line_of;
