@@ -1,11 +1,11 @@
 // Lines from rows of numbers.
-ghost use Rattle.std.specs.Prelude.{◌≡◌, ℕ, length, IfSome, IfOk};
+ghost use Rattle.std.specs.Prelude.{◌≡◌, ℕ, length, IfSome, IfOk, None};
 ghost use Rattle.worked_lines.specs.Sizes.{HasSizes};
 
 use hoist_base::{Line, LineParts, Name, Stage, Tank, Tanks};
 use std::alloc::{AllocError, Global};
 
-/// The numbers of a line itself.
+/// The numbers of a line itself, named and measured as those of `LineParts`.
 #[derive(Clone, Copy, Debug)]
 pub struct Numbers {
     pub track: u32,
@@ -17,7 +17,7 @@ pub struct Numbers {
     pub unload: u32,
 }
 
-/// A stage as numbers; `tanks` counts the tanks from the first.
+/// A stage as numbers: those of its tanks, counted from 0, and its times in ticks.
 #[derive(Clone, Copy)]
 pub struct Row<'a> {
     pub tanks: &'a [u32],
@@ -27,7 +27,53 @@ pub struct Row<'a> {
     pub lower: u32,
 }
 
-/// The line of these numbers, names and places of tanks, and stages; None where they make no line or there is no memory.
+/// The load, with the ticks of a lift out of it.
+pub(crate) fn load(tanks: &[u32], lift: u32) -> Row<'_>
+    ensures tanks { result.tanks.now ≡ tanks.now }
+    ensures window { (result.min ≡ 0) × (result.max ≡ None) }
+    ensures times { (result.lift ≡ lift) × (result.lower ≡ 0) }
+{
+    Row {
+        tanks,
+        min: 0,
+        max: None,
+        lift,
+        lower: 0,
+    }
+}
+
+/// The unload, with the ticks of a lower into it.
+pub(crate) fn unload(tanks: &[u32], lower: u32) -> Row<'_>
+    ensures tanks { result.tanks.now ≡ tanks.now }
+    ensures window { (result.min ≡ 0) × (result.max ≡ None) }
+    ensures times { (result.lift ≡ 0) × (result.lower ≡ lower) }
+{
+    Row {
+        tanks,
+        min: 0,
+        max: None,
+        lift: 0,
+        lower,
+    }
+}
+
+/// A stage between them.
+pub(crate) fn inner(tanks: &[u32], min: u32, max: Option<u32>, lift: u32, lower: u32) -> Row<'_>
+    ensures tanks { result.tanks.now ≡ tanks.now }
+    ensures window { (result.min ≡ min) × (result.max ≡ max) }
+    ensures times { (result.lift ≡ lift) × (result.lower ≡ lower) }
+{
+    Row {
+        tanks,
+        min,
+        max,
+        lift,
+        lower,
+    }
+}
+
+/// The line of these numbers, names and places of tanks, and stages; None where they make no line or there is no
+/// memory.
 pub fn line_of_rows(
     alloc: Global,
     numbers: Numbers,

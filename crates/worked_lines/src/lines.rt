@@ -3,7 +3,7 @@ ghost use Rattle.std.specs.Prelude.{IfSome};
 ghost use Rattle.worked_lines.specs.Sizes.{HasSizes};
 ghost use Rattle.worked_lines.specs.WorkedNumbers.{two_stations_numbers, one_bath_numbers, two_hoists_numbers, rinse_twice_numbers, one_station_numbers, thirteen_stages_numbers, far_tank_numbers, two_baths_numbers, slow_choice_numbers};
 
-use crate::build::{Numbers, Row, line_of_rows};
+use crate::build::{Numbers, inner, line_of_rows, load, unload};
 use hoist_base::Line;
 use std::alloc::Global;
 
@@ -21,22 +21,7 @@ pub fn two_stations(alloc: Global) -> Option<Line>
         unload: 2,
     };
     let tanks = [("load", 0), ("out", 4)];
-    let rows = [
-        Row {
-            tanks: &[0],
-            min: 0,
-            max: None,
-            lift: 1,
-            lower: 0,
-        },
-        Row {
-            tanks: &[1],
-            min: 0,
-            max: None,
-            lift: 0,
-            lower: 1,
-        },
-    ];
+    let rows = [load(&[0], 1), unload(&[1], 1)];
     line_of_rows(alloc, numbers, &tanks, &rows)
 }
 
@@ -55,27 +40,9 @@ pub fn one_bath(alloc: Global) -> Option<Line>
     };
     let tanks = [("load", 0), ("bath", 3), ("out", 6)];
     let rows = [
-        Row {
-            tanks: &[0],
-            min: 0,
-            max: None,
-            lift: 1,
-            lower: 0,
-        },
-        Row {
-            tanks: &[1],
-            min: 5,
-            max: Some(10),
-            lift: 1,
-            lower: 1,
-        },
-        Row {
-            tanks: &[2],
-            min: 0,
-            max: None,
-            lift: 0,
-            lower: 1,
-        },
+        load(&[0], 1),
+        inner(&[1], 5, Some(10), 1, 1),
+        unload(&[2], 1),
     ];
     line_of_rows(alloc, numbers, &tanks, &rows)
 }
@@ -95,27 +62,9 @@ pub fn two_hoists(alloc: Global) -> Option<Line>
     };
     let tanks = [("load", 0), ("bath", 3), ("out", 6)];
     let rows = [
-        Row {
-            tanks: &[0],
-            min: 0,
-            max: None,
-            lift: 1,
-            lower: 0,
-        },
-        Row {
-            tanks: &[1],
-            min: 5,
-            max: Some(10),
-            lift: 1,
-            lower: 1,
-        },
-        Row {
-            tanks: &[2],
-            min: 0,
-            max: None,
-            lift: 0,
-            lower: 1,
-        },
+        load(&[0], 1),
+        inner(&[1], 5, Some(10), 1, 1),
+        unload(&[2], 1),
     ];
     line_of_rows(alloc, numbers, &tanks, &rows)
 }
@@ -135,41 +84,11 @@ pub fn rinse_twice(alloc: Global) -> Option<Line>
     };
     let tanks = [("load", 0), ("r", 1), ("p", 2), ("out", 3)];
     let rows = [
-        Row {
-            tanks: &[0],
-            min: 0,
-            max: None,
-            lift: 1,
-            lower: 0,
-        },
-        Row {
-            tanks: &[1],
-            min: 1,
-            max: None,
-            lift: 1,
-            lower: 1,
-        },
-        Row {
-            tanks: &[2],
-            min: 1,
-            max: None,
-            lift: 1,
-            lower: 1,
-        },
-        Row {
-            tanks: &[1],
-            min: 1,
-            max: None,
-            lift: 1,
-            lower: 1,
-        },
-        Row {
-            tanks: &[3],
-            min: 0,
-            max: None,
-            lift: 0,
-            lower: 1,
-        },
+        load(&[0], 1),
+        inner(&[1], 1, None, 1, 1),
+        inner(&[2], 1, None, 1, 1),
+        inner(&[1], 1, None, 1, 1),
+        unload(&[3], 1),
     ];
     line_of_rows(alloc, numbers, &tanks, &rows)
 }
@@ -189,27 +108,9 @@ pub fn one_station(alloc: Global) -> Option<Line>
     };
     let tanks = [("st", 0), ("bath", 3)];
     let rows = [
-        Row {
-            tanks: &[0],
-            min: 0,
-            max: None,
-            lift: 1,
-            lower: 0,
-        },
-        Row {
-            tanks: &[1],
-            min: 5,
-            max: Some(10),
-            lift: 1,
-            lower: 1,
-        },
-        Row {
-            tanks: &[0],
-            min: 0,
-            max: None,
-            lift: 0,
-            lower: 1,
-        },
+        load(&[0], 1),
+        inner(&[1], 5, Some(10), 1, 1),
+        unload(&[0], 1),
     ];
     line_of_rows(alloc, numbers, &tanks, &rows)
 }
@@ -242,97 +143,19 @@ pub fn thirteen_stages(alloc: Global) -> Option<Line>
         ("out", 44),
     ];
     let rows = [
-        Row {
-            tanks: &[0],
-            min: 0,
-            max: None,
-            lift: 8,
-            lower: 0,
-        },
-        Row {
-            tanks: &[1],
-            min: 120,
-            max: Some(240),
-            lift: 8,
-            lower: 8,
-        },
-        Row {
-            tanks: &[2],
-            min: 20,
-            max: Some(60),
-            lift: 8,
-            lower: 8,
-        },
-        Row {
-            tanks: &[3],
-            min: 60,
-            max: Some(120),
-            lift: 8,
-            lower: 8,
-        },
-        Row {
-            tanks: &[2],
-            min: 20,
-            max: Some(60),
-            lift: 8,
-            lower: 8,
-        },
-        Row {
-            tanks: &[4],
-            min: 45,
-            max: Some(90),
-            lift: 8,
-            lower: 8,
-        },
-        Row {
-            tanks: &[5],
-            min: 20,
-            max: Some(60),
-            lift: 8,
-            lower: 8,
-        },
-        Row {
-            tanks: &[6],
-            min: 600,
-            max: None,
-            lift: 8,
-            lower: 8,
-        },
-        Row {
-            tanks: &[7],
-            min: 15,
-            max: Some(60),
-            lift: 8,
-            lower: 8,
-        },
-        Row {
-            tanks: &[8],
-            min: 30,
-            max: Some(60),
-            lift: 8,
-            lower: 8,
-        },
-        Row {
-            tanks: &[9],
-            min: 20,
-            max: Some(90),
-            lift: 8,
-            lower: 8,
-        },
-        Row {
-            tanks: &[10],
-            min: 120,
-            max: None,
-            lift: 8,
-            lower: 8,
-        },
-        Row {
-            tanks: &[11],
-            min: 0,
-            max: None,
-            lift: 0,
-            lower: 8,
-        },
+        load(&[0], 8),
+        inner(&[1], 120, Some(240), 8, 8),
+        inner(&[2], 20, Some(60), 8, 8),
+        inner(&[3], 60, Some(120), 8, 8),
+        inner(&[2], 20, Some(60), 8, 8),
+        inner(&[4], 45, Some(90), 8, 8),
+        inner(&[5], 20, Some(60), 8, 8),
+        inner(&[6], 600, None, 8, 8),
+        inner(&[7], 15, Some(60), 8, 8),
+        inner(&[8], 30, Some(60), 8, 8),
+        inner(&[9], 20, Some(90), 8, 8),
+        inner(&[10], 120, None, 8, 8),
+        unload(&[11], 8),
     ];
     line_of_rows(alloc, numbers, &tanks, &rows)
 }
@@ -352,27 +175,9 @@ pub fn far_tank(alloc: Global) -> Option<Line>
     };
     let tanks = [("load", 0), ("bath", 3), ("out", 6), ("far", 5)];
     let rows = [
-        Row {
-            tanks: &[0],
-            min: 0,
-            max: None,
-            lift: 1,
-            lower: 0,
-        },
-        Row {
-            tanks: &[3, 1],
-            min: 5,
-            max: Some(10),
-            lift: 1,
-            lower: 1,
-        },
-        Row {
-            tanks: &[2],
-            min: 0,
-            max: None,
-            lift: 0,
-            lower: 1,
-        },
+        load(&[0], 1),
+        inner(&[3, 1], 5, Some(10), 1, 1),
+        unload(&[2], 1),
     ];
     line_of_rows(alloc, numbers, &tanks, &rows)
 }
@@ -392,27 +197,9 @@ pub fn two_baths(alloc: Global) -> Option<Line>
     };
     let tanks = [("load", 0), ("a", 2), ("b", 4), ("out", 6)];
     let rows = [
-        Row {
-            tanks: &[0],
-            min: 0,
-            max: None,
-            lift: 1,
-            lower: 0,
-        },
-        Row {
-            tanks: &[1, 2],
-            min: 20,
-            max: Some(60),
-            lift: 1,
-            lower: 1,
-        },
-        Row {
-            tanks: &[3],
-            min: 0,
-            max: None,
-            lift: 0,
-            lower: 1,
-        },
+        load(&[0], 1),
+        inner(&[1, 2], 20, Some(60), 1, 1),
+        unload(&[3], 1),
     ];
     line_of_rows(alloc, numbers, &tanks, &rows)
 }
@@ -432,27 +219,9 @@ pub fn slow_choice(alloc: Global) -> Option<Line>
     };
     let tanks = [("load", 0), ("bath", 3), ("out", 6), ("b", 5)];
     let rows = [
-        Row {
-            tanks: &[0],
-            min: 0,
-            max: None,
-            lift: 1,
-            lower: 0,
-        },
-        Row {
-            tanks: &[1, 3],
-            min: 50,
-            max: None,
-            lift: 1,
-            lower: 1,
-        },
-        Row {
-            tanks: &[2],
-            min: 0,
-            max: None,
-            lift: 0,
-            lower: 1,
-        },
+        load(&[0], 1),
+        inner(&[1, 3], 50, None, 1, 1),
+        unload(&[2], 1),
     ];
     line_of_rows(alloc, numbers, &tanks, &rows)
 }
