@@ -1,2 +1,4 @@
-pub mod Printed
 pub mod Meanings
+pub mod Narrowing
+pub mod Printed
+pub mod Workers

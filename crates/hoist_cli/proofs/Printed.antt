@@ -1,29 +1,23 @@
 -- What a reply that was printed, whole or in part, comes to.
-use Rattle.std.proofs.Common.{◌≡◌, ℕ, ◌≤◌, ◌⊎◌, inr, take, length, List, Option, Some, None, IfSome, subst}
-use Rattle.outside.specs.Shelf.{Files}
+use Rattle.std.proofs.Common.{◌≡◌, ℕ, ◌≤◌, ◌⊎◌, inr, take, length, List, Option, Some, None, subst}
 use Rattle.outside.specs.Sink.{appended}
 use Rattle.hoist_cli.specs.declared.status.Status.{Status}
-use Rattle.hoist_cli.specs.declared.status.Status.TheVariants.{Write, Memory}
-use Rattle.hoist_cli.specs.Reply.{IsReply, IsPrinted}
+use Rattle.hoist_cli.specs.Reading.{Reading}
+use Rattle.hoist_cli.specs.Reply.{IsReply}
+use Rattle.hoist_cli.specs.Meaning.{Means}
+use Rattle.hoist_cli.proofs.Meanings.{reply_means}
 
--- no printed reply has a status that says that nothing could be printed whole
-pub printed_not : (status other : Status) → IsPrinted status → (IsPrinted other → ⊥) → status ≡ other → ⊥
-printed_not status other printed not_printed e = not_printed (subst IsPrinted e printed)
+-- a printed status means what it says
+pub means_by : (r : Reading) (words : List (List ℕ)) (old new : Option (List ℕ)) (status s : Status) (text : List ℕ) → new ≡ appended old text
+    → IsReply r words status text → status ≡ s → Means s r words old new
+means_by r words old new status s text written is e = subst (λ x. Means x r words old new) e (reply_means r words old new status text written is)
 
--- a prefix of the reply's text, under any premise
-abbrev IsPrefixOf : Files → List (List ℕ) → Option (List ℕ) → Option (List ℕ) → Type 0
-IsPrefixOf files words old new =
-    (new ≡ old) ⊎ ((status : Status) × (text : List ℕ) × (n : ℕ) × IsReply files words status text × (n ≤ length text) × (new ≡ appended old (take n text)))
-
-pub prefix_of : (A : Type 0) (files : Option Files) (words : List (List ℕ)) (status : Status) (text : List ℕ) (old new : Option (List ℕ))
-    → IfSome files (λ fs. IsReply fs words status text) → (n : ℕ) × (n ≤ length text) × (new ≡ appended old (take n text))
-    → IfSome files (λ fs. A → IsPrefixOf fs words old new)
-prefix_of A None words status text old new reply part = tt
-prefix_of A (Some fs) words status text old new reply (n, le, is) = λ a. inr (status, text, n, reply, le, is)
-
--- a reply that was printed whole
-pub reply_of : (files : Option Files) (words : List (List ℕ)) (status : Status) (text : List ℕ) (old new : Option (List ℕ))
-    → IfSome files (λ fs. IsReply fs words status text) → new ≡ appended old text
-    → IfSome files (λ fs. (status ≡ Write) ⊎ ((status ≡ Memory) ⊎ ((text : List ℕ) × IsReply fs words status text × (new ≡ appended old text))))
-reply_of None words status text old new reply written = tt
-reply_of (Some fs) words status text old new reply written = inr (inr (text, reply, written))
+-- what was written is a front of a reply's text
+pub prefix_of : (r : Reading) (words : List (List ℕ)) (old new : Option (List ℕ)) (status : Status) (text shown : List ℕ)
+    → IsReply r words status text → shown ≡ text → (n : ℕ) × (n ≤ length shown) × (new ≡ appended old (take n shown))
+    → (new ≡ old)
+    ⊎ ((status : Status) × (text : List ℕ) × (n : ℕ) × IsReply r words status text × (n ≤ length text) × (new ≡ appended old (take n text)))
+prefix_of r words old new status text shown is e part =
+    let (n, le, written) =
+    subst (λ (t : List ℕ). (n : ℕ) × (n ≤ length t) × (new ≡ appended old (take n t))) e part in
+    inr (status, text, n, is, le, written)

@@ -1,70 +1,32 @@
--- What the program prints, and the status that it ends with, for what the shelf holds.
-use Rattle.std.specs.Prelude.{◌≡◌, ℕ, ◌<◌, ◌≤◌, ◌^◌, ◌⊎◌, List, ◌++◌, length, codes, decimal, Option}
-use Rattle.hoist_base.specs.LineData.{LineData}
-use Rattle.line_text.specs.declared.why.LineRead.{LineRead}
-use Rattle.line_text.specs.declared.why.LineRead.TheVariants.{Ready, Refused}
-use Rattle.line_text.specs.File.{bytes_read}
-use Rattle.line_text.specs.Refusal.{refusal_of}
-use Rattle.outside.specs.Shelf.{Files, bytes_of}
-use Rattle.outside.specs.Sink.{appended}
+-- What the program prints, and the status that it ends with, for its words and for what was read.
+use Rattle.std.specs.Prelude.{◌≡◌, ℕ, ◌⊎◌, List, ◌++◌, codes, Option, Some, None, string_bytes}
+use Rattle.hoist_base.specs.LineData.{LineData, is_single}
+use Rattle.line_model.specs.Legal.{IsLegal, NoneBelow}
+use Rattle.timetable.specs.TimetableData.{TimetableData, timetable_of}
+use Rattle.timetable.specs.Faults.{IsFirstFault}
+use Rattle.timetable.specs.declared.fault.Fault.{Fault}
 use Rattle.answer_text.specs.declared.answer.Verdict.{Verdict}
 use Rattle.answer_text.specs.declared.answer.Verdict.TheVariants as verdicts
 use Rattle.answer_text.specs.declared.answer.Answer.{Answer}
-use Rattle.answer_text.specs.Answers.{answer_text, is_single}
-use Rattle.answer_read.specs.declared.answer.AnswerRead.{AnswerRead}
-use Rattle.answer_read.specs.declared.answer.AnswerRead.TheVariants as answers
-use Rattle.answer_read.specs.Answers.{IsRead}
-use Rattle.cert_checker.specs.declared.reason.Reason.{Reason}
+use Rattle.answer_text.specs.Answers.{answer_text, IsWritable}
 use Rattle.cert_checker.specs.declared.checked.Checked.{Checked}
 use Rattle.cert_checker.specs.declared.checked.Checked.TheVariants.{Accepted, Rejected}
-use Rattle.cert_checker.specs.Order.{IsChecked, IsFirstReason}
+use Rattle.cert_checker.specs.Order.{IsChecked}
 use Rattle.cert_checker.specs.Rules.{KeepsRules}
-use Rattle.line_model.specs.Legal.{NoneBelow}
+use Rattle.check_text.specs.Faults.{fault_of}
 use Rattle.check_text.specs.Reasons.{checked_of}
 use Rattle.solve_line.specs.AnswerOf.{IsSolution}
-use Rattle.solve_line.specs.Claims.{KeepsClaim, IsOptimal, IsNothing, IsUnfinished}
-use Rattle.hoist_words.specs.Request.{AsksSolve, AsksCheck, AskNothing}
+use Rattle.solve_line.specs.Claims.{KeepsClaim}
+use Rattle.run_text.specs.RunText.{run_text}
+use Rattle.gantt_report.specs.Chart.{chart_text}
+use Rattle.gantt_report.specs.DwellTable.{dwell_text}
+use Rattle.hoist_words.specs.declared.requests.Request.{Request}
+use Rattle.hoist_words.specs.declared.requests.Request.TheVariants.{Solve, Check, Run, Chart, Drill}
+use Rattle.hoist_words.specs.Request.{IsRequestOf}
 use Rattle.hoist_cli.specs.declared.status.Status.{Status}
-use Rattle.hoist_cli.specs.declared.status.Status.TheVariants.{Done, Negative, Words, Unfinished, Line, Broken, Read, Write, Long, Memory}
-
--- a reply: the status, and the text that is printed
-abbrev pub Replies : Type 1
-Replies = Status → List ℕ → Type 0
-
--- ---- files
-
--- the most bytes that a line file and an answer file have
-abbrev pub line_limit : ℕ
-line_limit = 65536
-
-abbrev pub answer_limit : ℕ
-answer_limit = 2 ^ 30
-
--- a word and the name of a file, as a line
-abbrev pub named : List ℕ → List ℕ → List ℕ
-named word name = word ++ (name ++ codes "\n")
-
--- the file of this name couldn't be read, or is too long
-abbrev pub IsFileRefusal : Files → List ℕ → ℕ → Replies
-IsFileRefusal files name limit status text =
-    ((status ≡ Read) × (text ≡ named (codes "read fault: ") name))
-    ⊎ ((limit < length (bytes_of files name)) × (status ≡ Long) × (text ≡ named (codes "too long: ") name))
-
--- the reply where the file of this name is asked for: a refusal, or what its bytes call for
-abbrev pub AfterRead : Files → List ℕ → ℕ → (List ℕ → Replies) → Replies
-AfterRead files name limit Next status text =
-    IsFileRefusal files name limit status text
-    ⊎ ((length (bytes_of files name) ≤ limit) × Next (bytes_of files name) status text)
-
--- the first thing that is wrong with a file that is no line file
-abbrev pub IsLineRefusal : LineRead → Replies
-IsLineRefusal (Ready l) status text = ⊥
-IsLineRefusal (Refused why) status text = (status ≡ Line) × (text ≡ codes "line refused: " ++ (refusal_of why ++ codes "\n"))
-
--- the reply to a file that is to be a line file: a refusal, or what its line calls for
-abbrev pub AfterLine : (LineData → Replies) → LineRead → Replies
-AfterLine Next read status text =
-    IsLineRefusal read status text ⊎ ((l : LineData) × (read ≡ Ready l) × Next l status text)
+use Rattle.hoist_cli.specs.declared.status.Status.TheVariants.{Done, Negative, Words, Unfinished}
+use Rattle.hoist_cli.specs.Drill.{DrillReply}
+use Rattle.hoist_cli.specs.Reading.{Replies, Reading, IsLineOf, AfterLine, AnswerReply}
 
 -- ---- solve
 
@@ -73,13 +35,13 @@ status_of verdicts.Optimal = Done
 status_of verdicts.Nothing = Negative
 status_of verdicts.Unfinished = Unfinished
 
--- the text of the answer of the search, which keeps its claim, with the status of its verdict
+-- the text of the answer of the search, which has a text and keeps its claim, with the status of its verdict
 abbrev pub IsSolved : ℕ → LineData → Replies
 IsSolved budget l status text =
-    (a : Answer) × IsSolution l budget a × KeepsClaim l budget a × (status ≡ status_of a.verdict) × (text ≡ answer_text l a)
+    (a : Answer) × IsSolution l budget a × KeepsClaim l budget a × IsWritable l a × (status ≡ status_of a.verdict) × (text ≡ answer_text l a)
 
-abbrev pub SolveReply : Files → List ℕ → ℕ → Replies
-SolveReply files file budget = AfterRead files file line_limit (λ bytes. AfterLine (IsSolved budget) (bytes_read bytes))
+abbrev pub SolveReply : Reading → List ℕ → ℕ → Replies
+SolveReply r file budget = AfterLine r file (IsSolved budget)
 
 -- ---- check
 
@@ -92,79 +54,59 @@ abbrev pub Accepts : LineData → Answer → Checked → Type 0
 Accepts l a (Accepted claimed) = KeepsRules l a × NoneBelow l a.bound
 Accepts l a (Rejected reason) = Unit {0}
 
--- the reply to an answer file that was read: where it breaks, or what the checker answers
-abbrev pub AfterAnswer : LineData → AnswerRead → Replies
-AfterAnswer l (answers.Ready a) status text =
+-- the text of what the checker answers
+abbrev pub IsJudged : LineData → Answer → Replies
+IsJudged l a status text =
     (checked : Checked) × IsChecked l a checked × Accepts l a checked × (status ≡ status_of_checked checked)
     × (text ≡ checked_of (is_single l) checked)
-AfterAnswer l (answers.Broken offset) status text =
-    (status ≡ Broken) × (text ≡ codes "answer broken at byte " ++ (decimal offset ++ codes "\n"))
 
-abbrev pub IsAnswered : LineData → List ℕ → Replies
-IsAnswered l bytes status text = (read : AnswerRead) × IsRead l bytes read × AfterAnswer l read status text
+-- ---- run and chart
 
-abbrev pub CheckReply : Files → List ℕ → List ℕ → Replies
-CheckReply files file answer =
-    AfterRead files file line_limit
-    (λ bytes. AfterLine (λ l. AfterRead files answer answer_limit (IsAnswered l)) (bytes_read bytes))
+-- why the timetable of an answer is rejected: there is none, or it isn't legal, for its first fault
+abbrev pub IsFlawed : LineData → Option TimetableData → List ℕ → Type 0
+IsFlawed l None why = why ≡ codes "timetable missing"
+IsFlawed l (Some t) why =
+    (IsLegal l (timetable_of t) → ⊥) × ((fault : Fault) × IsFirstFault l (timetable_of t) fault × (why ≡ fault_of fault))
+
+-- the reply where the timetable of an answer has to be legal: it is rejected, or what the legal one calls for
+abbrev pub AfterLegal : LineData → (TimetableData → Replies) → Option TimetableData → Replies
+AfterLegal l Next timetable status text =
+    ((why : List ℕ) × IsFlawed l timetable why × IsLineOf Negative (codes "rejected: ") why status text)
+    ⊎ ((t : TimetableData) × (timetable ≡ Some t) × IsLegal l (timetable_of t) × Next t status text)
+
+-- the reply where the timetable of an answer is drawn or played
+abbrev pub TimetableReply : Reading → List ℕ → List ℕ → (LineData → TimetableData → List ℕ) → Replies
+TimetableReply r file answer drawn =
+    AnswerReply r file answer (λ l a. AfterLegal l (λ t status text. (status ≡ Done) × (text ≡ drawn l t)) a.timetable)
+
+-- the run of the first n carriers
+abbrev pub run_of : ℕ → LineData → TimetableData → List ℕ
+run_of n l t = run_text l (timetable_of t) n
+
+-- the chart, and then the dwell table
+abbrev pub chart_of : LineData → TimetableData → List ℕ
+chart_of l t = chart_text l (timetable_of t) ++ dwell_text l (timetable_of t)
 
 -- ---- words
 
 abbrev pub usage : List ℕ
-usage = codes "usage: hoist solve FILE [--budget N] [--workers N]\n       hoist check FILE ANSWER\n"
+usage =
+    codes "usage: hoist solve FILE [--budget N] [--workers N]\n"
+    ++ (codes "       hoist check FILE ANSWER\n"
+    ++ (codes "       hoist run FILE ANSWER [--carriers N]\n"
+    ++ (codes "       hoist chart FILE ANSWER\n"
+    ++ codes "       hoist drill SEED\n")))
 
--- the reply to the words, where the shelf holds these files
-abbrev pub IsReply : Files → List (List ℕ) → Replies
-IsReply files words status text =
-    (AskNothing words × (status ≡ Words) × (text ≡ usage))
-    ⊎ (((file : List ℕ) × (budget : ℕ) × (workers : ℕ) × AsksSolve words file budget workers × SolveReply files file budget status text)
-    ⊎ ((file : List ℕ) × (answer : List ℕ) × AsksCheck words file answer × CheckReply files file answer status text))
+-- the reply to a request, and where there is none
+abbrev pub ReplyTo : Reading → Option Request → Replies
+ReplyTo r None status text = (status ≡ Words) × (text ≡ usage)
+ReplyTo r (Some (Solve file budget workers)) status text = SolveReply r (string_bytes file) budget status text
+ReplyTo r (Some (Check file answer)) status text = AnswerReply r (string_bytes file) (string_bytes answer) IsJudged status text
+ReplyTo r (Some (Run file answer carriers)) status text =
+    TimetableReply r (string_bytes file) (string_bytes answer) (run_of carriers) status text
+ReplyTo r (Some (Chart file answer)) status text = TimetableReply r (string_bytes file) (string_bytes answer) chart_of status text
+ReplyTo r (Some (Drill seed)) status text = DrillReply seed status text
 
--- a status that stands beside a printed text; the others say that none could be printed whole
-abbrev pub IsPrinted : Status → Type 0
-IsPrinted Done = Unit {0}
-IsPrinted Negative = Unit {0}
-IsPrinted Words = Unit {0}
-IsPrinted Unfinished = Unit {0}
-IsPrinted Line = Unit {0}
-IsPrinted Broken = Unit {0}
-IsPrinted Read = Unit {0}
-IsPrinted Write = ⊥
-IsPrinted Long = Unit {0}
-IsPrinted Memory = ⊥
-
--- ---- what the statuses say
-
--- the words ask to solve the line l of a file under a budget, and the text of this answer was printed, which is that of the search
-pub record IsSolveRun (files : Files) (words : List (List ℕ)) (old new : Option (List ℕ)) (l : LineData) (budget : ℕ) (a : Answer) : Type 0 where
-  pub file : List ℕ
-  pub workers : ℕ
-  pub asks : AsksSolve words file budget workers
-  pub line : bytes_read (bytes_of files file) ≡ Ready l
-  pub solution : IsSolution l budget a
-  pub printed : new ≡ appended old (answer_text l a)
-
--- the words ask to check the text of this answer to the line l of a file
-pub record IsCheckRun (files : Files) (words : List (List ℕ)) (l : LineData) (a : Answer) : Type 0 where
-  pub file : List ℕ
-  pub answer : List ℕ
-  pub asks : AsksCheck words file answer
-  pub line : bytes_read (bytes_of files file) ≡ Ready l
-  pub reads : IsRead l (bytes_of files answer) (answers.Ready a)
-
--- a printed answer is optimal, or a checked one keeps all rules
-abbrev pub IsDone : Files → List (List ℕ) → Option (List ℕ) → Option (List ℕ) → Type 0
-IsDone files words old new =
-    ((l : LineData) × (budget : ℕ) × (a : Answer) × IsSolveRun files words old new l budget a × IsOptimal l a)
-    ⊎ ((l : LineData) × (a : Answer) × IsCheckRun files words l a × KeepsRules l a × NoneBelow l a.bound)
-
--- a printed answer says that there is no timetable, or a checked one has a first reason to be rejected
-abbrev pub IsNegative : Files → List (List ℕ) → Option (List ℕ) → Option (List ℕ) → Type 0
-IsNegative files words old new =
-    ((l : LineData) × (budget : ℕ) × (a : Answer) × IsSolveRun files words old new l budget a × IsNothing l a)
-    ⊎ ((l : LineData) × (a : Answer) × (reason : Reason) × IsCheckRun files words l a × IsFirstReason l a reason)
-
--- a printed answer is open
-abbrev pub IsOpen : Files → List (List ℕ) → Option (List ℕ) → Option (List ℕ) → Type 0
-IsOpen files words old new =
-    (l : LineData) × (budget : ℕ) × (a : Answer) × IsSolveRun files words old new l budget a × IsUnfinished l budget a
+-- the reply to the words
+abbrev pub IsReply : Reading → List (List ℕ) → Replies
+IsReply r words status text = (request : Option Request) × IsRequestOf words request × ReplyTo r request status text

@@ -2,7 +2,10 @@
 #![tactic(auto)]
 
 mod checking;
+mod drawing;
+mod drilling;
 mod files;
+pub mod laws;
 mod replies;
 mod solving;
 mod status;

@@ -1,10 +1,10 @@
 // What the program prints, and its status.
-ghost use Rattle.std.specs.Prelude.{◌≡◌, ◌++◌, codes, IfOk};
-ghost use Rattle.line_text.specs.Refusal.{refusal_of};
-ghost use Rattle.hoist_cli.specs.Reply.{named, usage, IsPrinted};
+ghost use Rattle.std.specs.Prelude.{◌≡◌, IfOk};
+ghost use Rattle.hoist_cli.specs.Reading.{IsLineOf};
+ghost use Rattle.hoist_cli.specs.Reply.{usage};
+ghost use Rattle.hoist_cli.specs.Stops.{Refuses, settled_of};
 
 use crate::status::Status;
-use line_text::{Why, refusal_text};
 use std::alloc::{AllocError, Global};
 
 /// The text that is to be printed, and the status that the program ends with once it is printed.
@@ -36,41 +36,47 @@ impl From<AllocError> for Stop {
 pub(crate) fn usage_reply(alloc: Global) -> Result<Reply, AllocError>
     ensures { IfOk result (λ reply. (reply.status ≡ Status.Words) × (reply.text.items ≡ usage)) }
 {
-    let text = Vec::from_slice(
+    let mut text = Vec::from_slice(
         alloc,
-        b"usage: hoist solve FILE [--budget N] [--workers N]\n       hoist check FILE ANSWER\n",
+        b"usage: hoist solve FILE [--budget N] [--workers N]\n",
     )?;
+    text.extend_from_slice(b"       hoist check FILE ANSWER\n")?;
+    text.extend_from_slice(b"       hoist run FILE ANSWER [--carriers N]\n")?;
+    text.extend_from_slice(b"       hoist chart FILE ANSWER\n")?;
+    text.extend_from_slice(b"       hoist drill SEED\n")?;
     Ok(Reply {
         status: Status::Words,
         text,
     })
 }
 
-/// A word and the name of a file, as a line.
-pub(crate) fn named_reply(
-    alloc: Global,
-    status: Status,
-    word: &[u8],
-    name: &str,
-) -> Result<Reply, AllocError>
-    ensures { IfOk result (λ reply. (reply.status ≡ status) × (reply.text.items ≡ named word.now name.now)) }
+/// A word and what it is about, as one line.
+fn line_of(alloc: Global, status: Status, word: &[u8], about: &[u8]) -> Result<Reply, AllocError>
+    ensures { IfOk result (λ reply. IsLineOf status word.now about.now reply.status reply.text.items) }
 {
     let mut text = Vec::from_slice(alloc, word)?;
-    text.extend_from_slice(name.as_bytes())?;
+    text.extend_from_slice(about)?;
     text.push(b'\n')?;
     Ok(Reply { status, text })
 }
 
-/// The reply to a file that isn't a line file.
-pub(crate) fn line_refusal(alloc: Global, why: &Why) -> Result<Reply, AllocError>
-    ensures { IfOk result (λ reply. (reply.status ≡ Status.Line) × (reply.text.items ≡ codes "line refused: " ++ (refusal_of why.now ++ codes "\n"))) }
+/// The stop with a word and what it is about, as one line.
+pub(crate) fn refusal(alloc: Global, status: Status, word: &[u8], about: &[u8]) -> Stop
+    ensures { Refuses (IsLineOf status word.now about.now) result }
 {
-    let mut text = Vec::from_slice(alloc, b"line refused: ")?;
-    let refusal = refusal_text(alloc, why)?;
-    text.extend_from_slice(refusal.as_slice())?;
-    text.push(b'\n')?;
-    Ok(Reply {
-        status: Status::Line,
-        text,
-    })
+    match line_of(alloc, status, word, about) {
+        Ok(reply) => Stop::Refused(reply),
+        Err(_) => Stop::Memory,
+    }
+}
+
+/// The reply, whether a command stopped with it or not; None for want of memory.
+pub(crate) fn settled(replied: Result<Reply, Stop>) -> Option<Reply>
+    ensures { result ≡ settled_of replied }
+{
+    match replied {
+        Ok(reply) => Some(reply),
+        Err(Stop::Refused(reply)) => Some(reply),
+        Err(Stop::Memory) => None,
+    }
 }

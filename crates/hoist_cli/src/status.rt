@@ -1,10 +1,16 @@
 // How a run of the program ends.
+ghost use Rattle.std.specs.Prelude.{◌≡◌};
+ghost use Rattle.std.specs.Process.{exit_status};
+ghost use Rattle.hoist_cli.specs.Exit.{number_of};
+
 use std::process::ExitCode;
 
 /// How a run of the program ends; the number is its exit status.
 ///
-/// - `Done`: the printed answer is optimal, or the checked answer is accepted.
-/// - `Negative`: the line has no legal timetable up to its greatest period, or the checked answer is rejected.
+/// - `Done`: the printed answer is optimal, the checked answer is accepted, the legal timetable of the answer was played
+///   or drawn, or the drill was done.
+/// - `Negative`: the line has no legal timetable up to its greatest period, the checked answer is rejected, or the answer
+///   whose timetable was to be played or drawn has none or an illegal one.
 /// - `Words`: the words of the program ask for nothing that it does.
 /// - `Unfinished`: the budget of splits was spent before the search ended.
 /// - `Line`: the file isn't a line file.
@@ -28,7 +34,9 @@ pub enum Status {
 
 impl Status {
     /// The exit status of the program.
-    pub fn exit_code(self) -> ExitCode {
+    pub fn exit_code(self) -> ExitCode
+        ensures { exit_status result ≡ number_of self }
+    {
         ExitCode::from(self as u8)
     }
 }

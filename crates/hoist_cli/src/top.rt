@@ -1,17 +1,22 @@
 // The call that does all that the program does.
-ghost use Rattle.std.specs.Prelude.{◌≡◌, ℕ, ◌≤◌, ◌⊎◌, List, IfOk, IfSome, take, length};
+ghost use Rattle.std.specs.Prelude.{◌≡◌, ℕ, ◌≤◌, ◌⊎◌, List, take, length};
 ghost use Rattle.outside.specs.Count.{Rose};
 ghost use Rattle.outside.specs.Sink.{appended};
 ghost use Rattle.hoist_words.specs.Request.{words_of, AskNothing};
-ghost use Rattle.hoist_cli.specs.Reply.{IsReply, IsPrinted, IsDone, IsNegative, IsOpen};
+ghost use Rattle.hoist_cli.specs.Meaning.{IsDone, IsNegative, IsOpen};
+ghost use Rattle.hoist_cli.specs.Reading.{reading};
+ghost use Rattle.hoist_cli.specs.Reply.{IsReply};
+ghost use Rattle.hoist_cli.specs.Stops.{Gives};
 
 use crate::checking::check_file;
-use crate::replies::{Reply, usage_reply};
+use crate::drawing::{chart_file, run_file};
+use crate::drilling::drill;
+use crate::replies::{Reply, Stop, settled, usage_reply};
 use crate::solving::solve_file;
 use crate::status::Status;
 use hoist_words::{Request, read_words};
 use outside::{Gate, Shelf, Sink, WriteEnd, write_all};
-use std::alloc::{AllocError, Global};
+use std::alloc::Global;
 use std::thread::Threads;
 
 /// The reply to the words of the program.
@@ -21,24 +26,33 @@ fn reply_to<R: Threads + Sync, F: Shelf, G: Gate>(
     words: &[String],
     shelf: &mut F,
     gate: &G,
-) -> Result<Reply, AllocError>
-    ensures told { IfSome (F.files shelf.old) (λ files. IfOk result (λ reply. IsReply files (words_of words.now) reply.status reply.text.items)) }
-    ensures words { IfOk result (λ reply. reply.status ≡ Status.Words → AskNothing (words_of words.now)) }
-    ensures nothing { IfOk result (λ reply. AskNothing (words_of words.now) → reply.status ≡ Status.Words) }
-    ensures printed { IfOk result (λ reply. IsPrinted reply.status) }
-    ensures read { IfOk result (λ reply. reply.status ≡ Status.Read → Rose (F.faults shelf.old) (F.faults shelf.new)) }
+) -> Result<Reply, Stop>
+    ensures { Gives (IsReply (reading (F.files shelf.old) (F.faults shelf.old) (F.faults shelf.new)) (words_of words.now)) result }
 {
-    match read_words(alloc, words)? {
-        None => usage_reply(alloc),
-        Some(
-            Request::Solve {
-                file,
-                budget,
-                workers,
-            },
-        ) => solve_file(rt, alloc, file.as_str(), budget, workers, shelf, gate),
-        Some(Request::Check { file, answer }) => {
+    let Some(request) = read_words(alloc, words)? else {
+        let reply = usage_reply(alloc)?;
+        return Ok(reply);
+    };
+    match request {
+        Request::Solve {
+            file,
+            budget,
+            workers,
+        } => solve_file(rt, alloc, file.as_str(), budget, workers, shelf, gate),
+        Request::Check { file, answer } => {
             check_file(rt, alloc, file.as_str(), answer.as_str(), shelf)
+        }
+        Request::Run {
+            file,
+            answer,
+            carriers,
+        } => run_file(alloc, file.as_str(), answer.as_str(), carriers, shelf),
+        Request::Chart { file, answer } => {
+            chart_file(alloc, file.as_str(), answer.as_str(), shelf)
+        }
+        Request::Drill { seed } => {
+            let reply = drill(rt, alloc, seed, gate)?;
+            Ok(reply)
         }
     }
 }
@@ -52,6 +66,10 @@ fn reply_to<R: Threads + Sync, F: Shelf, G: Gate>(
 ///   greatest; with `Unfinished` the budget was spent, and none has a period below the printed bound.
 /// - `check` with the status `Done`: the answer's timetable, where it has one, is legal, its tree proves its bound, and so no
 ///   legal timetable of the line has a smaller period. With `Negative` the first reason to reject it is printed.
+/// - `run` and `chart` with the status `Done`: the answer's timetable is legal, and the log of its run, or its chart and then
+///   its dwell table, is printed. With `Negative` the answer has no timetable, or an illegal one, whose first fault is
+///   printed. The tree of the answer isn't looked at.
+/// - `drill`, always with the status `Done`: the printed text is that of the line of the seed and of its answer.
 ///
 /// Want of memory may be answered instead of anything else.
 pub fn hoist<R: Threads + Sync, F: Shelf, K: Sink, G: Gate>(
@@ -62,21 +80,22 @@ pub fn hoist<R: Threads + Sync, F: Shelf, K: Sink, G: Gate>(
     sink: &mut K,
     gate: &G,
 ) -> Status
-    ensures done { result ≡ Status.Done → IfSome (F.files shelf.old) (λ files. IsDone files (words_of words.now) (K.written sink.old) (K.written sink.new)) }
-    ensures negative { result ≡ Status.Negative → IfSome (F.files shelf.old) (λ files. IsNegative files (words_of words.now) (K.written sink.old) (K.written sink.new)) }
-    ensures unfinished { result ≡ Status.Unfinished → IfSome (F.files shelf.old) (λ files. IsOpen files (words_of words.now) (K.written sink.old) (K.written sink.new)) }
-    ensures reply { IfSome (F.files shelf.old) (λ files. (result ≡ Status.Write) ⊎ ((result ≡ Status.Memory)
-        ⊎ ((text : List ℕ) × IsReply files (words_of words.now) result text × (K.written sink.new ≡ appended (K.written sink.old) text)))) }
+    ensures done { result ≡ Status.Done → IsDone (reading (F.files shelf.old) (F.faults shelf.old) (F.faults shelf.new)) (words_of words.now) (K.written sink.old) (K.written sink.new) }
+    ensures negative { result ≡ Status.Negative → IsNegative (reading (F.files shelf.old) (F.faults shelf.old) (F.faults shelf.new)) (words_of words.now) (K.written sink.old) (K.written sink.new) }
+    ensures unfinished { result ≡ Status.Unfinished → IsOpen (reading (F.files shelf.old) (F.faults shelf.old) (F.faults shelf.new)) (words_of words.now) (K.written sink.old) (K.written sink.new) }
+    ensures reply { (result ≡ Status.Write) ⊎ ((result ≡ Status.Memory)
+        ⊎ ((text : List ℕ) × IsReply (reading (F.files shelf.old) (F.faults shelf.old) (F.faults shelf.new)) (words_of words.now) result text × (K.written sink.new ≡ appended (K.written sink.old) text))) }
     ensures words { result ≡ Status.Words → AskNothing (words_of words.now) }
     ensures nothing { AskNothing (words_of words.now) → (result ≡ Status.Words) ⊎ ((result ≡ Status.Write) ⊎ (result ≡ Status.Memory)) }
     ensures read { result ≡ Status.Read → Rose (F.faults shelf.old) (F.faults shelf.new) }
     ensures write { result ≡ Status.Write → Rose (K.faults sink.old) (K.faults sink.new) }
     ensures memory { result ≡ Status.Memory → (K.written sink.new ≡ K.written sink.old) ⊎ Rose (K.wants sink.old) (K.wants sink.new) }
-    ensures prefix { IfSome (F.files shelf.old) (λ files. (result ≡ Status.Write) ⊎ (result ≡ Status.Memory)
-        → (K.written sink.new ≡ K.written sink.old) ⊎ ((status : Status) × (text : List ℕ) × (n : ℕ) × IsReply files (words_of words.now) status text
-        × (n ≤ length text) × (K.written sink.new ≡ appended (K.written sink.old) (take n text)))) }
+    ensures prefix { (result ≡ Status.Write) ⊎ (result ≡ Status.Memory)
+        → (K.written sink.new ≡ K.written sink.old) ⊎ ((status : Status) × (text : List ℕ) × (n : ℕ)
+        × IsReply (reading (F.files shelf.old) (F.faults shelf.old) (F.faults shelf.new)) (words_of words.now) status text
+        × (n ≤ length text) × (K.written sink.new ≡ appended (K.written sink.old) (take n text))) }
 {
-    let Ok(reply) = reply_to(rt, alloc, words, shelf, gate) else {
+    let Some(reply) = settled(reply_to(rt, alloc, words, shelf, gate)) else {
         return Status::Memory;
     };
     match write_all(sink, reply.text.as_slice()) {

@@ -1,5 +1,3 @@
-pub mod CheckLemmas
-pub mod MatchLemmas
 pub mod ReadingLemmas
 pub mod RequestLemmas
-pub mod SolveLemmas
+pub mod WalkLemmas

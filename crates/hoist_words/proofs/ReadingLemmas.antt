@@ -1,41 +1,68 @@
 -- Words have at most one reading as items.
-use Rattle.std.proofs.Common.{◌≡◌, ℕ, zero, suc, ◌≤◌, ◌∙◌, Bool, true, false, List, [], ◌∷◌, ◌++◌, length, get_or, drop, codes, Contains, if◌then◌else◌, inl, inr, refl, sym, ap, subst, arith, Option, Some, None}
-use Rattle.hoist_words.specs.Request.{Item, File, Given, Says, AreKnown, IsFileName, values_of, is_budget, is_workers}
+use Rattle.std.proofs.Common.{◌≡◌, ◌==◌, ℕ, zero, suc, ◌<◌, ◌≤◌, ◌∙◌, Bool, true, false, List, [], ◌∷◌, ◌++◌, length, get_or, drop, codes, Contains}
+use Rattle.std.proofs.Common.{if◌then◌else◌, inl, inr, refl, sym, ap, subst, arith, Option, Some, None, Bor, nat_eq, slice_index_or, true≢false}
+use Rattle.std.proofs.Common.{ne_eqb, is_some, ◌⊎◌}
+use Rattle.std.specs.Prelude.{not}
+use Rattle.hoist_words.specs.Request.{Item, File, Given, Says, AreKnown, IsFileName, option_names, values_of, is_budget, is_workers, is_carriers}
 use Rattle.hoist_words.specs.Forms.{name_of, opening, joined, IsForm}
-use Rattle.hoist_words.specs.Found.{AreOptions, AreFew, IsFound, IsWith}
+use Rattle.hoist_words.specs.Found.{AreOptions, AreFew, IsFound, IsOptionFit, IsPlainFor, IsWith, listed}
+use Rattle.hoist_words.specs.declared.table.Limits.{Limits}
 use Rattle.hoist_words.specs.declared.forms.Name.{Name}
-use Rattle.hoist_words.specs.declared.forms.Name.TheVariants.{Budget, Workers}
+use Rattle.hoist_words.specs.declared.forms.Name.TheVariants.{Budget, Workers, Carriers}
 use Rattle.hoist_words.specs.declared.forms.Form.TheVariants.{Other}
 use Rattle.hoist_words.specs.declared.found.Found.{Found}
 
 -- the names of options
 
-named : (name : List ℕ) → Contains (codes "budget" ∷ codes "workers" ∷ []) name → (m : Name) × (name ≡ name_of m)
+named : (name : List ℕ) → Contains option_names name → (m : Name) × (name ≡ name_of m)
 named name (zero, lt, e) = (Budget, sym e)
 named name (suc zero, lt, e) = (Workers, sym e)
-named name (suc (suc k), lt, e) = absurd (omega (arith, lt))
+named name (suc (suc zero), lt, e) = (Carriers, sym e)
+named name (suc (suc (suc k)), lt, e) = absurd (omega (arith, lt))
 
-is_named : (m : Name) → Contains (codes "budget" ∷ codes "workers" ∷ []) (name_of m)
+is_named : (m : Name) → Contains option_names (name_of m)
 is_named Budget = (0, omega arith, refl)
 is_named Workers = (1, omega arith, refl)
+is_named Carriers = (2, omega arith, refl)
+
+-- the name behind two dashes, by its first byte
+abbrev name_in_word : List ℕ → Name
+name_in_word w = if get_or w 2 0 == 98 then Budget else if get_or w 2 0 == 119 then Workers else Carriers
+
+in_opening : (m : Name) → name_in_word (opening (name_of m)) ≡ m
+in_opening Budget = refl
+in_opening Workers = refl
+in_opening Carriers = refl
+
+in_joined : (m : Name) (v : List ℕ) → name_in_word (joined (name_of m) v) ≡ m
+in_joined Budget v = refl
+in_joined Workers v = refl
+in_joined Carriers v = refl
+
+longer : (m : Name) (v : List ℕ) → length (opening (name_of m)) < length (joined (name_of m) v)
+longer Budget v = omega arith
+longer Workers v = omega arith
+longer Carriers v = omega arith
+
+value_behind : (m : Name) (v : List ℕ) → drop (suc (length (opening (name_of m)))) (joined (name_of m) v) ≡ v
+value_behind Budget v = refl
+value_behind Workers v = refl
+value_behind Carriers v = refl
 
 joined_not_opening : (m n : Name) (v : List ℕ) → joined (name_of m) v ≡ opening (name_of n) → ⊥
-joined_not_opening Budget Budget v e = let f : 61 ≡ 0 = ap (λ (ws : List ℕ). get_or ws 8 0) e in omega (arith, f)
-joined_not_opening Budget Workers v e = let f : 98 ≡ 119 = ap (λ (ws : List ℕ). get_or ws 2 0) e in omega (arith, f)
-joined_not_opening Workers Budget v e = let f : 119 ≡ 98 = ap (λ (ws : List ℕ). get_or ws 2 0) e in omega (arith, f)
-joined_not_opening Workers Workers v e = let f : 61 ≡ 0 = ap (λ (ws : List ℕ). get_or ws 9 0) e in omega (arith, f)
+joined_not_opening m n v e =
+    let same : m ≡ n = sym (in_joined m v) ∙ ap name_in_word e ∙ in_opening n in
+    let l : length (joined (name_of m) v) ≡ length (opening (name_of m)) = ap length (e ∙ ap (λ x. opening (name_of x)) (sym same)) in
+    omega (arith, longer m v, l)
 
 same_opening : (m n : Name) → opening (name_of m) ≡ opening (name_of n) → m ≡ n
-same_opening Budget Budget e = refl
-same_opening Budget Workers e = let f : 98 ≡ 119 = ap (λ (ws : List ℕ). get_or ws 2 0) e in absurd (omega (arith, f))
-same_opening Workers Budget e = let f : 119 ≡ 98 = ap (λ (ws : List ℕ). get_or ws 2 0) e in absurd (omega (arith, f))
-same_opening Workers Workers e = refl
+same_opening m n e = sym (in_opening m) ∙ ap name_in_word e ∙ in_opening n
 
 same_joined : (m n : Name) (v u : List ℕ) → joined (name_of m) v ≡ joined (name_of n) u → (m ≡ n) × (v ≡ u)
-same_joined Budget Budget v u e = (refl, ap (drop 9) e)
-same_joined Budget Workers v u e = let f : 98 ≡ 119 = ap (λ (ws : List ℕ). get_or ws 2 0) e in absurd (omega (arith, f))
-same_joined Workers Budget v u e = let f : 119 ≡ 98 = ap (λ (ws : List ℕ). get_or ws 2 0) e in absurd (omega (arith, f))
-same_joined Workers Workers v u e = (refl, ap (drop 10) e)
+same_joined m n v u e =
+    let same : m ≡ n = sym (in_joined m v) ∙ ap name_in_word e ∙ in_joined n u in
+    let at : joined (name_of m) v ≡ joined (name_of m) u = e ∙ ap (λ x. joined (name_of x) u) (sym same) in
+    (same, sym (value_behind m v) ∙ ap (drop (suc (length (opening (name_of m))))) at ∙ value_behind m u)
 
 dashed : (w rest : List ℕ) → w ≡ codes "--" ++ rest → IsFileName w → ⊥
 dashed w rest e file = subst IsFileName e file refl
@@ -46,7 +73,7 @@ pub known_tail : (names : List (List ℕ)) (item : Item) (items : List Item) →
 known_tail names item items known name value c = known name value (suc c.0, omega (arith, c.1), c.2)
 
 pub options_tail : (item : Item) (items : List Item) → AreOptions (item ∷ items) → AreOptions items
-options_tail = known_tail (codes "budget" ∷ codes "workers" ∷ [])
+options_tail = known_tail option_names
 
 pub known_name : (items : List Item) (name value : List ℕ) → AreOptions (Given name value ∷ items) → (m : Name) × (name ≡ name_of m)
 known_name items name value known = named name (known name value (0, omega arith, refl))
@@ -65,7 +92,7 @@ file_known w items known name value (suc k, lt, e) = known name value (k, omega 
 
 given_known : (m : Name) (v : List ℕ) (items : List Item) → AreOptions items → AreOptions (Given (name_of m) v ∷ items)
 given_known m v items known name value (zero, lt, e) =
-    let f : name_of m ≡ name = ap name_in e in subst (Contains (codes "budget" ∷ codes "workers" ∷ [])) f (is_named m)
+    let f : name_of m ≡ name = ap name_in e in subst (Contains option_names) f (is_named m)
 given_known m v items known name value (suc k, lt, e) = known name value (k, omega (arith, lt), e)
 
 -- every reading of the words begins with this item, and goes on with the words behind it
@@ -191,9 +218,13 @@ shorter true v vs = omega arith
 shorter false v vs = omega arith
 
 few_tail : (item : Item) (items : List Item) → AreFew (item ∷ items) → AreFew items
-few_tail (File name) items (f, b, w) = (omega (arith, f), b, w)
-few_tail (Given name value) items (f, b, w) =
-    (f, omega (arith, b, shorter (is_budget name) value (values_of is_budget items)), omega (arith, w, shorter (is_workers name) value (values_of is_workers items)))
+few_tail (File name) items (f, b, w, c) = (omega (arith, f), b, w, c)
+few_tail (Given name value) items (f, b, w, c) = (
+  f,
+  omega (arith, b, shorter (is_budget name) value (values_of is_budget items)),
+  omega (arith, w, shorter (is_workers name) value (values_of is_workers items)),
+  omega (arith, c, shorter (is_carriers name) value (values_of is_carriers items)),
+)
 
 -- what was found behind an item
 pub found_more : (item : Item) (words rest : List (List ℕ)) (found : Found) (more : Option Found) → Begins item words rest → IsFound rest (Some found)
@@ -222,3 +253,31 @@ pub none_found : (item : Item) (words said rest : List (List ℕ)) (answer : Opt
     → IsFound rest None → answer ≡ None → IsFound words answer
 none_found item words said rest answer e first h none =
     subst (λ x. IsFound words x) (sym none) (subst (λ x. IsFound x None) (sym e) (found_none item said rest first h))
+
+-- ---- whether a value may be a number
+
+fit_by_first : (limits : Option Limits) (b : ℕ) (bs : List ℕ) (t : Bool) → is_some limits ≡ true → nat_eq b 45 ≡ t → IsOptionFit limits ((b ∷ bs) ∷ []) (not t)
+fit_by_first limits b bs true some e = λ plain. true≢false (sym e ∙ ne_eqb b 45 plain.1)
+fit_by_first limits b bs false some e = (some, λ dash. true≢false (sym (ap (λ x. nat_eq x 45) dash) ∙ e))
+
+fit_word : (limits : Option Limits) (w : List ℕ) → is_some limits ≡ true → nat_eq (length w) 0 ≡ false
+    → IsOptionFit limits (w ∷ []) (not (nat_eq (slice_index_or w 0 0) 45))
+fit_word limits [] some full = absurd (true≢false full)
+fit_word limits (b ∷ bs) some full = fit_by_first limits b bs (nat_eq b 45) some refl
+
+pub fit_value : (limits : Option Limits) (given : Option (Bor (List ℕ))) (value : Bor (List ℕ)) (bytes : List ℕ) → given ≡ Some value → bytes ≡ value.now
+    → is_some limits ≡ true → nat_eq (length value.now) 0 ≡ false → IsOptionFit limits (listed given) (not (nat_eq (slice_index_or bytes 0 0) 45))
+fit_value limits given value bytes e same some full =
+    subst (λ g. IsOptionFit limits (listed g) (not (nat_eq (slice_index_or bytes 0 0) 45))) (sym e)
+    (subst (λ w. IsOptionFit limits (value.now ∷ []) (not (nat_eq (slice_index_or w 0 0) 45))) (sym same) (fit_word limits value.now some full))
+
+-- an empty value, or one that the command doesn't take, is no number
+pub unfit_value : (limits : Option Limits) (given : Option (Bor (List ℕ))) (value : Bor (List ℕ)) → given ≡ Some value
+    → (is_some limits ≡ false) ⊎ (length value.now ≡ 0) → IsOptionFit limits (listed given) false
+unfit_value limits given value e why =
+    subst (λ g. IsOptionFit limits (listed g) false) (sym e) (λ plain. no (value.now) why plain)
+  where
+    no : (w : List ℕ) → (is_some limits ≡ false) ⊎ (length w ≡ 0) → IsPlainFor limits (w ∷ []) → ⊥
+    no w (inl none) plain = true≢false (sym plain.0 ∙ none)
+    no [] (inr empty) plain = plain.1
+    no (b ∷ bs) (inr empty) plain = omega (arith, empty)

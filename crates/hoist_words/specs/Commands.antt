@@ -1,10 +1,14 @@
--- The commands that `clap` reads, and the requests of their words.
-use Rattle.std.specs.Prelude.{◌≡◌, ℕ, true, List, [], ◌∷◌, codes, Some, string_bytes}
-use Rattle.clap.specs.Words.{App, Rule, new_app, new_rule, with_rule}
-use Rattle.clap.specs.declared.builder.ArgAction.TheVariants.{Set}
-use Rattle.hoist_words.specs.Request.{IsFileName, IsValue}
+-- The commands as `clap` has them, and the requests of what they read.
+use Rattle.std.specs.Prelude.{◌≡◌, ℕ, Bool, true, List, [], ◌∷◌, length, codes, nat_lt, is_some, if◌then◌else◌, Option, Some, None}
+use Rattle.clap.specs.Words.{App, Rule, new_app, new_rule, with_rule, first_value}
+use Rattle.clap.specs.declared.builder.action.ArgAction.TheVariants.{Set}
+use Rattle.clap.specs.declared.parser.matches.Found.{Found}
+use Rattle.hoist_words.specs.Table.{name_of_command, row_of}
+use Rattle.hoist_words.specs.Request.{IsNumber, IsSeed, command_in, files_in, numbers_in}
+use Rattle.hoist_words.specs.declared.table.CommandName.{CommandName}
+use Rattle.hoist_words.specs.declared.table.CommandRow.{CommandRow}
+use Rattle.hoist_words.specs.declared.numbers.Numbers.{Numbers}
 use Rattle.hoist_words.specs.declared.requests.Request.{Request}
-use Rattle.hoist_words.specs.declared.requests.Request.TheVariants.{Solve, Check}
 
 -- a positional word that has to be there
 abbrev pub positional_rule : List ℕ → Rule
@@ -14,26 +18,48 @@ positional_rule id = record (new_rule id) { required = true; action = Some Set }
 abbrev pub option_rule : List ℕ → Rule
 option_rule id = record (new_rule id) { long = Some id; action = Some Set }
 
--- the command `solve`
-abbrev pub solve_app : App
-solve_app =
-    with_rule (with_rule (with_rule (new_app (codes "solve")) (positional_rule (codes "FILE"))) (option_rule (codes "budget"))) (option_rule (codes "workers"))
+abbrev pub with_rule_if : Bool → Rule → App → App
+with_rule_if is_taken rule app = if is_taken then with_rule app rule else app
 
--- the command `check`
-abbrev pub check_app : App
-check_app = with_rule (with_rule (new_app (codes "check")) (positional_rule (codes "FILE"))) (positional_rule (codes "ANSWER"))
+-- the command of a row: its words that are no options by their places, and its options
+abbrev pub app_by : List ℕ → CommandRow → App
+app_by name row =
+    with_rule_if (is_some row.carriers) (option_rule (codes "carriers"))
+    (with_rule_if (is_some row.workers) (option_rule (codes "workers"))
+    (with_rule_if (is_some row.budget) (option_rule (codes "budget"))
+    (with_rule_if (nat_lt 1 row.files) (positional_rule (codes "second"))
+    (with_rule (new_app name) (positional_rule (codes "first"))))))
 
--- a word that isn't empty and doesn't begin with a dash, so that it stands for itself
-abbrev pub IsPlainWord : List ℕ → Type 0
-IsPlainWord word = IsFileName word
+abbrev pub app_for : CommandName → App
+app_for command = app_by (name_of_command command) (row_of command)
 
--- the request to solve the line of a file, with the budget and the workers of these two words
-abbrev pub IsSolve : List ℕ → List ℕ → List ℕ → Request → Type 0
-IsSolve name budget workers (Solve file splits threads) =
-    (string_bytes file ≡ name) × IsValue (budget ∷ []) 20000 0 20000 splits × IsValue (workers ∷ []) 4 1 64 threads
-IsSolve name budget workers (Check file answer) = ⊥
+-- the words that were read and are no options, one or two
+abbrev pub AreFiles : Found → List (List ℕ) → Type 0
+AreFiles found [] = ⊥
+AreFiles found (file ∷ []) = first_value found (codes "first") ≡ Some file
+AreFiles found (file ∷ other ∷ files) =
+    (first_value found (codes "first") ≡ Some file) × (first_value found (codes "second") ≡ Some other) × (files ≡ [])
 
--- the request to check an answer to the line of a file
-abbrev pub IsCheck : List ℕ → List ℕ → Request → Type 0
-IsCheck name other (Solve file budget workers) = ⊥
-IsCheck name other (Check file answer) = (string_bytes file ≡ name) × (string_bytes answer ≡ other)
+-- a value that may be there, as a list
+abbrev pub values : Option (List ℕ) → List (List ℕ)
+values None = []
+values (Some value) = value ∷ []
+
+-- the numbers of what was read, each within the limits of the row
+pub record AreNumbers (row : CommandRow) (found : Found) (numbers : Numbers) : Type 0 where
+  pub budget : IsNumber row.budget (values (first_value found (codes "budget"))) numbers.budget
+  pub workers : IsNumber row.workers (values (first_value found (codes "workers"))) numbers.workers
+  pub carriers : IsNumber row.carriers (values (first_value found (codes "carriers"))) numbers.carriers
+  pub seed : IsSeed row.seed (values (first_value found (codes "first"))) numbers.seed
+
+-- the files of what was read: none where the command takes a seed
+abbrev pub AreFilesOf : Option ℕ → ℕ → Found → List (List ℕ) → Type 0
+AreFilesOf None count found files = (length files ≡ count) × AreFiles found files
+AreFilesOf (Some most) count found files = files ≡ []
+
+-- the request of what was read, or that the values are no numbers within their limits
+abbrev pub IsReadOf : CommandName → Found → Option Request → Type 0
+IsReadOf command found None = (numbers : Numbers) → AreNumbers (row_of command) found numbers → ⊥
+IsReadOf command found (Some request) =
+    (command_in request ≡ command) × AreFilesOf (row_of command).seed (row_of command).files found (files_in request)
+    × AreNumbers (row_of command) found (numbers_in request)

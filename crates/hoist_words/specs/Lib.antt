@@ -3,3 +3,4 @@ pub mod Forms
 pub mod Found
 pub mod Laws
 pub mod Request
+pub mod Table

@@ -1,11 +1,14 @@
-// The commands that `clap` reads.
-ghost use Rattle.std.specs.Prelude.{◌≡◌, ℕ, true, false, [], ◌∷◌, map, IfOk};
-ghost use Rattle.clap.specs.Words.{app_of, found_of, kind_of, matches_of, rows_of, rule_of, takes};
-ghost use Rattle.hoist_words.specs.Request.{IsValue};
-ghost use Rattle.hoist_words.specs.Commands.{solve_app, check_app, positional_rule, option_rule, IsPlainWord, IsSolve, IsCheck};
+// The commands as `clap` has them.
+ghost use Rattle.std.specs.Prelude.{◌≡◌, ℕ, true, false, List, length, map, codes, string_bytes};
+ghost use Rattle.std.specs.Prelude.{is_some, Some, IfOk, MatchOption};
+ghost use Rattle.clap.specs.Words.{app_of, first_value, found_of, kind_of, matches_of, rows_of, rule_of, takes};
+ghost use Rattle.hoist_words.specs.Table.{row_of};
+ghost use Rattle.hoist_words.specs.Commands.{app_by, positional_rule, option_rule, with_rule_if};
+ghost use Rattle.hoist_words.specs.Commands.{AreFiles, AreNumbers, IsReadOf};
 
 use crate::Request;
-use crate::numbers::{budget_of, workers_of};
+use crate::numbers::{Numbers, number_of, seed_of};
+use crate::table::{CommandName, CommandRow};
 use clap::error::ErrorKind;
 use clap::{Arg, ArgAction, ArgMatches, Command, Error};
 use std::alloc::{AllocError, Global};
@@ -26,25 +29,31 @@ fn option<'a>(alloc: Global, name: &'a str) -> Arg<'a>
     Arg::new(alloc, name).long(name).action(ArgAction::Set)
 }
 
-/// The command `solve`.
-fn solve_command<'a>(alloc: Global) -> Result<Command<'a>, AllocError>
-    ensures { IfOk result (λ command. app_of command ≡ solve_app) }
+/// The command with one argument more, where it takes it.
+fn with_argument<'a>(
+    command: Command<'a>,
+    argument: Arg<'a>,
+    is_taken: bool,
+) -> Result<Command<'a>, AllocError>
+    requires { argument.global ≡ false }
+    ensures { IfOk result (λ c. app_of c ≡ with_rule_if is_taken (rule_of argument.entry) (app_of command.entry)) }
 {
-    let command = Command::new(alloc, "solve")
-        .arg(positional(alloc, "FILE"))?
-        .arg(option(alloc, "budget"))?
-        .arg(option(alloc, "workers"))?;
-    Ok(command)
+    if is_taken {
+        command.arg(argument)
+    } else {
+        Ok(command)
+    }
 }
 
-/// The command `check`.
-fn check_command<'a>(alloc: Global) -> Result<Command<'a>, AllocError>
-    ensures { IfOk result (λ command. app_of command ≡ check_app) }
+/// The command of a row.
+fn definition<'a>(alloc: Global, name: &'a str, row: &CommandRow) -> Result<Command<'a>, AllocError>
+    ensures { IfOk result (λ c. app_of c ≡ app_by name.entry.now row.now) }
 {
-    let command = Command::new(alloc, "check")
-        .arg(positional(alloc, "FILE"))?
-        .arg(positional(alloc, "ANSWER"))?;
-    Ok(command)
+    let command = Command::new(alloc, name).arg(positional(alloc, "first"))?;
+    let command = with_argument(command, positional(alloc, "second"), row.files > 1)?;
+    let command = with_argument(command, option(alloc, "budget"), row.budget.is_some())?;
+    let command = with_argument(command, option(alloc, "workers"), row.workers.is_some())?;
+    with_argument(command, option(alloc, "carriers"), row.carriers.is_some())
 }
 
 /// The want of memory of which `clap` tells.
@@ -54,54 +63,79 @@ fn want_of_memory(_error: Error) -> AllocError
     AllocError
 }
 
-/// What a command reads of words that it takes. An error is want of memory.
-fn matches_for<'a>(command: Command<'a>, words: &'a [&'a str]) -> Result<ArgMatches<'a>, AllocError>
-    requires { takes (app_of command) (map (λ w. w.now) words.now) ≡ true }
-    ensures { IfOk result (λ m. rows_of (found_of m) ≡ matches_of (app_of command.entry) (map (λ w. w.now) words.entry.now)) }
+/// What the command of a row reads of words that it takes, of which the first is its name. An error is want of memory.
+pub(crate) fn matches_for<'a>(
+    alloc: Global,
+    name: &'a str,
+    row: &CommandRow,
+    words: &'a [String],
+) -> Result<ArgMatches<'a>, AllocError>
+    requires { takes (app_by name.now row.now) (map string_bytes words.now) ≡ true }
+    ensures { IfOk result (λ m. rows_of (found_of m)
+        ≡ matches_of (app_by name.entry.now row.now) (map string_bytes words.entry.now)) }
 {
+    let command = definition(alloc, name, row)?;
     match command.try_get_matches_from(words) {
         Ok(matches) => Ok(matches),
         Err(error) => Err(want_of_memory(error)),
     }
 }
 
-/// The request to solve the line of a file with the budget and the workers of two words, as `clap` reads it. An error is
-/// want of memory.
-pub(crate) fn read_solve<'a>(
-    alloc: Global,
-    file: &'a str,
-    budget: &'a str,
-    workers: &'a str,
-) -> Result<Request, AllocError>
-    requires file { IsPlainWord file.now }
-    requires budget { (n : ℕ) × IsValue (budget.now ∷ []) 20000 0 20000 n }
-    requires workers { (n : ℕ) × IsValue (workers.now ∷ []) 4 1 64 n }
-    ensures { IfOk result (λ request. IsSolve file.now budget.now workers.now request) }
+/// The numbers of what a command of this row reads; None where one isn't within its limits.
+fn numbers_of(row: &CommandRow, matches: &ArgMatches) -> Option<Numbers>
+    requires { is_some (first_value (found_of matches.now) (codes "first")) ≡ true }
+    ensures { MatchOption result ((n : Numbers) → AreNumbers row.now (found_of matches.now) n → ⊥)
+        (λ n. AreNumbers row.now (found_of matches.now) n) }
 {
-    let words = ["solve", "--budget", budget, "--workers", workers, file];
-    let matches = matches_for(solve_command(alloc)?, words.as_slice())?;
-    let name = matches.get_str("FILE").unwrap();
-    let splits = budget_of(matches.get_str("budget")).unwrap();
-    let threads = workers_of(matches.get_str("workers")).unwrap();
-    Ok(Request::Solve {
-        file: String::from_str(alloc, name)?,
-        budget: splits,
-        workers: threads,
+    Some(Numbers {
+        budget: number_of(row.budget, matches.get_str("budget"))?,
+        workers: number_of(row.workers, matches.get_str("workers"))?,
+        carriers: number_of(row.carriers, matches.get_str("carriers"))?,
+        seed: seed_of(row.seed, matches.get_str("first").unwrap())?,
     })
 }
 
-/// The request to check an answer to the line of a file, as `clap` reads it of its words. An error is want of memory.
-pub(crate) fn read_check(alloc: Global, file: &str, answer: &str) -> Result<Request, AllocError>
-    requires file { IsPlainWord file.now }
-    requires answer { IsPlainWord answer.now }
-    ensures { IfOk result (λ request. IsCheck file.now answer.now request) }
+/// The word that was read in this place. An error is want of memory.
+fn word_at(alloc: Global, matches: &ArgMatches, place: &str) -> Result<String, AllocError>
+    requires { is_some (first_value (found_of matches.now) place.now) ≡ true }
+    ensures { IfOk result (λ s. first_value (found_of matches.now) place.now ≡ Some (string_bytes s)) }
 {
-    let words = ["check", file, answer];
-    let matches = matches_for(check_command(alloc)?, words.as_slice())?;
-    let name = matches.get_str("FILE").unwrap();
-    let other = matches.get_str("ANSWER").unwrap();
-    Ok(Request::Check {
-        file: String::from_str(alloc, name)?,
-        answer: String::from_str(alloc, other)?,
-    })
+    String::from_str(alloc, matches.get_str(place).unwrap())
+}
+
+/// The request of what a command reads; None where a value isn't a number within its limits. An error is no memory.
+pub(crate) fn request_of(
+    alloc: Global,
+    command: CommandName,
+    matches: &ArgMatches,
+) -> Result<Option<Request>, AllocError>
+    requires { (files : List (List ℕ)) × (length files ≡ (row_of command).files)
+        × AreFiles (found_of matches.now) files }
+    ensures { IfOk result (λ r. IsReadOf command (found_of matches.now) r) }
+{
+    let Some(numbers) = numbers_of(&command.row(), matches) else {
+        return Ok(None);
+    };
+    let request = match command {
+        CommandName::Solve => Request::Solve {
+            file: word_at(alloc, matches, "first")?,
+            budget: numbers.budget,
+            workers: numbers.workers,
+        },
+        CommandName::Check => Request::Check {
+            file: word_at(alloc, matches, "first")?,
+            answer: word_at(alloc, matches, "second")?,
+        },
+        CommandName::Run => Request::Run {
+            file: word_at(alloc, matches, "first")?,
+            answer: word_at(alloc, matches, "second")?,
+            carriers: numbers.carriers,
+        },
+        CommandName::Chart => Request::Chart {
+            file: word_at(alloc, matches, "first")?,
+            answer: word_at(alloc, matches, "second")?,
+        },
+        CommandName::Drill => Request::Drill { seed: numbers.seed },
+    };
+    Ok(Some(request))
 }

@@ -7,11 +7,12 @@ ghost use Rattle.hoist_words.specs.Forms.{IsForm, IsFormOf, StartsWith};
 pub(crate) enum Name {
     Budget,
     Workers,
+    Carriers,
 }
 
 /// What a word is.
 ///
-/// - `File`: the name of a file.
+/// - `File`: no option: the name of a file or a number in its place.
 /// - `Opens`: the name of an option, whose value is the next word.
 /// - `Given`: an option with its value.
 /// - `Other`: none of these.
@@ -57,7 +58,10 @@ pub(crate) fn form_of<'a>(word: &'a str) -> Form<'a>
         return Form::File(word);
     }
     match form_as(word, Name::Budget, "--budget") {
-        Form::Other => form_as(word, Name::Workers, "--workers"),
+        Form::Other => match form_as(word, Name::Workers, "--workers") {
+            Form::Other => form_as(word, Name::Carriers, "--carriers"),
+            form => form,
+        },
         form => form,
     }
 }

@@ -1,13 +1,8 @@
 //! What the meaning of the words promises beyond single calls.
-ghost use Rattle.hoist_words.specs.Laws.{OneSolve, OneCheck, NeverBoth};
+ghost use Rattle.hoist_words.specs.Laws.{OneRequest};
 
-/// Words ask for one request at most.
-///
-/// - `solve`: they don't ask to solve with two different files, budgets or numbers of workers.
-/// - `check`: nor to check two different files or answers.
-/// - `never_both`: nor for both.
+/// Words ask for one request at most: not for two commands, nor for one command with two different lists of files or
+/// with different numbers.
 pub fn one_request()
-    ensures solve { OneSolve }
-    ensures check { OneCheck }
-    ensures never_both { NeverBoth }
+    ensures { OneRequest }
 {}

@@ -7,6 +7,7 @@ mod found;
 pub mod laws;
 mod numbers;
 mod requests;
+mod table;
 #[cfg(test)]
 mod tests;
 mod words;

@@ -4,6 +4,9 @@
 ///
 /// - `Solve`: answer the line of `file`, with a budget of splits, 0 to 20,000, and 1 to 64 workers.
 /// - `Check`: check the answer in `answer` to the line of `file`.
+/// - `Run`: run the timetable of that answer with 1 to 1,000 carriers.
+/// - `Chart`: draw the timetable of that answer.
+/// - `Drill`: make the line of `seed` and put it through all of this.
 #[derive(Debug, Drop)]
 pub enum Request {
     Solve {
@@ -14,5 +17,17 @@ pub enum Request {
     Check {
         file: String,
         answer: String,
+    },
+    Run {
+        file: String,
+        answer: String,
+        carriers: u32,
+    },
+    Chart {
+        file: String,
+        answer: String,
+    },
+    Drill {
+        seed: u32,
     },
 }

@@ -30,6 +30,15 @@ fn told(alloc: Global, words: &[&str]) -> Result<String, Fail> {
             },
         ) => format!(in alloc; "solve {file} {budget} {workers}")?,
         Some(Request::Check { file, answer }) => format!(in alloc; "check {file} {answer}")?,
+        Some(
+            Request::Run {
+                file,
+                answer,
+                carriers,
+            },
+        ) => format!(in alloc; "run {file} {answer} {carriers}")?,
+        Some(Request::Chart { file, answer }) => format!(in alloc; "chart {file} {answer}")?,
+        Some(Request::Drill { seed }) => format!(in alloc; "drill {seed}")?,
     };
     Ok(text)
 }
@@ -41,6 +50,10 @@ fn words_that_ask(rt: HostRuntime) -> Result<(), Fail> {
         row(&["", "solve", "f"], "solve f 20000 4"),
         row(&["hoist", "solve", "--budget=5", "f"], "solve f 5 4"),
         row(&["hoist", "solve", "f", "--budget", "5"], "solve f 5 4"),
+        row(
+            &["hoist", "solve", "--budget", "7", "--workers=2", "f"],
+            "solve f 7 2",
+        ),
         row(
             &["hoist", "solve", "f", "--workers", "64"],
             "solve f 20000 64",
@@ -56,6 +69,15 @@ fn words_that_ask(rt: HostRuntime) -> Result<(), Fail> {
         row(&["hoist", "solve", "a b=c"], "solve a b=c 20000 4"),
         row(&["hoist", "check", "f", "a"], "check f a"),
         row(&["hoist", "check", "f", "f"], "check f f"),
+        row(&["hoist", "run", "f", "a"], "run f a 10"),
+        row(&["hoist", "run", "--carriers=1", "f", "a"], "run f a 1"),
+        row(
+            &["hoist", "run", "f", "--carriers", "1000", "a"],
+            "run f a 1000",
+        ),
+        row(&["hoist", "chart", "f", "a"], "chart f a"),
+        row(&["hoist", "drill", "0"], "drill 0"),
+        row(&["hoist", "drill", "4294967295"], "drill 4294967295"),
     ];
     for i in 0..rows.len() {
         let text = told(rt.alloc(), rows[i].words)?;
@@ -81,7 +103,19 @@ fn words_that_ask_for_nothing(rt: HostRuntime) -> Result<(), Fail> {
         row(&["hoist", "check", "f"], "nothing"),
         row(&["hoist", "check", "f", "a", "b"], "nothing"),
         row(&["hoist", "check", "f", "a", "--budget", "5"], "nothing"),
+        row(&["hoist", "check", "f", "--workers=4", "a"], "nothing"),
         row(&["hoist", "check", "f", ""], "nothing"),
+        row(&["hoist", "run", "f"], "nothing"),
+        row(&["hoist", "chart", "f", "a", "--carriers=5"], "nothing"),
+        row(&["hoist", "drill"], "nothing"),
+        row(&["hoist", "drill", ""], "nothing"),
+        row(&["hoist", "drill", "f"], "nothing"),
+        row(&["hoist", "drill", "1", "2"], "nothing"),
+        row(&["hoist", "drill", "-1"], "nothing"),
+        row(&["hoist", "drill", "+1"], "nothing"),
+        row(&["hoist", "drill", "01"], "nothing"),
+        row(&["hoist", "drill", "4294967296"], "nothing"),
+        row(&["hoist", "drill", "1", "--budget", "5"], "nothing"),
     ];
     for i in 0..rows.len() {
         let text = told(rt.alloc(), rows[i].words)?;
@@ -121,6 +155,15 @@ fn options_that_are_refused(rt: HostRuntime) -> Result<(), Fail> {
         row(&["hoist", "solve", "f", "--help"], "nothing"),
         row(&["hoist", "solve", "f", "--budget", "--help"], "nothing"),
         row(&["hoist", "solve", "f", "-V"], "nothing"),
+        row(&["hoist", "solve", "f", "--carriers", "5"], "nothing"),
+        row(&["hoist", "run", "f", "a", "--carriers", "0"], "nothing"),
+        row(&["hoist", "run", "f", "a", "--carriers", "1001"], "nothing"),
+        row(&["hoist", "run", "f", "a", "--carriers=05"], "nothing"),
+        row(
+            &["hoist", "run", "f", "a", "--carriers=5", "--carriers=5"],
+            "nothing",
+        ),
+        row(&["hoist", "run", "f", "a", "--workers=2"], "nothing"),
     ];
     for i in 0..rows.len() {
         let text = told(rt.alloc(), rows[i].words)?;

@@ -1,11 +1,11 @@
 // Files at their limits, reads and writes that fail.
-use crate::answers::*;
-use crate::lines::*;
-use crate::runs::{files_of, run, words_of};
-use hoist_cli::{Status, hoist};
-use outside::{MemoryShelf, MemorySink, OpenGate, SteadyShelf, SteadySink};
+use crate::answers::TWO_STATIONS_ANSWER;
+use crate::lines::Worked;
+use crate::runs::{Files, run, run_with_read_fault, run_with_write_fault};
+use hoist_cli::Status;
 use std::alloc::{AllocError, Global};
 use std::test::Fail;
+use std::thread::Threads;
 
 /// A text with a comment behind it, so that it has this length.
 fn with_comment(alloc: Global, text: &str, length: usize) -> Result<Vec<u8>, AllocError> {
@@ -17,37 +17,26 @@ fn with_comment(alloc: Global, text: &str, length: usize) -> Result<Vec<u8>, All
 }
 
 #[test]
-fn a_line_file_at_its_limit(rt: HostRuntime) -> Result<(), Fail> {
+fn a_line_file_has_65536_bytes_at_most(rt: HostRuntime) -> Result<(), Fail> {
     let alloc = rt.alloc();
-    let text = TWO_STATIONS.text(alloc)?;
-    let words = words_of(alloc, &["hoist", "solve", "line"])?;
+    let file = Worked::TwoStations.file(alloc)?;
     let rows = [
         (65_536, Status::Done, TWO_STATIONS_ANSWER),
         (65_537, Status::Long, "too long: line\n"),
     ];
     for i in 0..rows.len() {
-        let (length, status, printed) = rows[i];
-        let mut files = Vec::new(alloc);
-        let bytes = with_comment(alloc, text.as_str(), length)?;
-        files.push((String::from_str(alloc, "line")?, bytes))?;
-        let mut shelf = SteadyShelf::new(files);
-        let mut sink = SteadySink::new(alloc);
-        let seen = hoist(
-            &rt,
-            alloc,
-            words.as_slice(),
-            &mut shelf,
-            &mut sink,
-            &OpenGate,
-        );
-        assert_eq!(rt; seen, status);
-        assert_eq!(rt; sink.written(), printed.as_bytes());
+        let (length, status, text) = rows[i];
+        let bytes = with_comment(alloc, file.as_str(), length)?;
+        let files = Files::of_line(bytes.as_slice());
+        let seen = run(&rt, alloc, "hoist solve line", files)?;
+        assert_eq!(rt; seen.text.as_slice(), text.as_bytes(), "{length} bytes");
+        assert_eq!(rt; seen.status, status, "{length} bytes");
     }
     Ok(())
 }
 
 #[test]
-fn an_empty_file_and_one_that_is_no_text(rt: HostRuntime) -> Result<(), Fail> {
+fn files_that_are_no_lines_are_refused(rt: HostRuntime) -> Result<(), Fail> {
     let alloc = rt.alloc();
     let rows = [
         ("", "line refused: missing version\n"),
@@ -55,68 +44,60 @@ fn an_empty_file_and_one_that_is_no_text(rt: HostRuntime) -> Result<(), Fail> {
         ("version = 3", "line refused: missing track\n"),
     ];
     for i in 0..rows.len() {
-        let (text, printed) = rows[i];
-        let seen = run(&rt, alloc, &["hoist", "solve", "line"], &[("line", text)])?;
-        assert_eq!(rt; seen.status, Status::Line);
-        assert_eq!(rt; seen.text.as_slice(), printed.as_bytes());
+        let (file, text) = rows[i];
+        let files = Files::of_line(file.as_bytes());
+        let seen = run(&rt, alloc, "hoist solve line", files)?;
+        assert_eq!(rt; seen.text.as_slice(), text.as_bytes(), "row {i}");
+        assert_eq!(rt; seen.status, Status::Line, "row {i}");
+    }
+    Ok(())
+}
+
+/// Whether a fault of write number n leaves what the writes before it took of the answer of two stations, where each
+/// takes at most `take` bytes.
+fn leaves_a_prefix<R: Threads + Sync>(
+    rt: &R,
+    alloc: Global,
+    line: &[u8],
+    take: usize,
+    n: usize,
+) -> Result<bool, Fail> {
+    let files = Files::of_line(line);
+    let seen = run_with_write_fault(rt, alloc, "hoist solve line", files, take, n as u64)?;
+    let length = n.saturating_mul(take).min(TWO_STATIONS_ANSWER.len());
+    let (written, _) = TWO_STATIONS_ANSWER
+        .as_bytes()
+        .split_at_checked(length)
+        .ok_or("no prefix")?;
+    Ok(seen.status == Status::Write && seen.text.as_slice() == written)
+}
+
+#[test]
+fn each_write_that_fails_leaves_a_prefix(rt: HostRuntime) -> Result<(), Fail> {
+    let alloc = rt.alloc();
+    let file = Worked::TwoStations.file(alloc)?;
+    let line = file.as_str().as_bytes();
+    assert!(rt; leaves_a_prefix(&rt, alloc, line, 16, 1)?);
+    for n in 0..TWO_STATIONS_ANSWER.len() {
+        assert!(rt; leaves_a_prefix(&rt, alloc, line, 1, n)?, "write {n}");
     }
     Ok(())
 }
 
 #[test]
-fn writes_that_fail_leave_a_prefix(rt: HostRuntime) -> Result<(), Fail> {
+fn each_read_that_fails_is_named(rt: HostRuntime) -> Result<(), Fail> {
     let alloc = rt.alloc();
-    let text = TWO_STATIONS.text(alloc)?;
-    let words = words_of(alloc, &["hoist", "solve", "line"])?;
-    // the most that a write takes, the write that fails, and how many bytes are written then
-    let rows = [(16, 1, 16), (1, 0, 0), (1, 7, 7), (1, 100, 100)];
-    for i in 0..rows.len() {
-        let (take, fails, length) = rows[i];
-        let mut shelf = MemoryShelf::new(
-            files_of(alloc, &[("line", text.as_str())])?,
-            Vec::new(alloc),
-        );
-        let mut numbers = Vec::new(alloc);
-        numbers.push(fails)?;
-        assert!(rt; 1 <= take && length <= TWO_STATIONS_ANSWER.len());
-        let mut sink = MemorySink::new(alloc, take, numbers);
-        let seen = hoist(
-            &rt,
-            alloc,
-            words.as_slice(),
-            &mut shelf,
-            &mut sink,
-            &OpenGate,
-        );
-        assert_eq!(rt; seen, Status::Write);
-        assert_eq!(rt; sink.written(), &TWO_STATIONS_ANSWER.as_bytes()[..length]);
-    }
-    Ok(())
-}
-
-#[test]
-fn reads_that_fail_are_named(rt: HostRuntime) -> Result<(), Fail> {
-    let alloc = rt.alloc();
-    let text = TWO_STATIONS.text(alloc)?;
-    let words = words_of(alloc, &["hoist", "check", "line", "answer"])?;
+    let file = Worked::TwoStations.file(alloc)?;
     let rows = [(0, "read fault: line\n"), (1, "read fault: answer\n")];
     for i in 0..rows.len() {
-        let (fails, printed) = rows[i];
-        let files = [("line", text.as_str()), ("answer", TWO_STATIONS_ANSWER)];
-        let mut numbers = Vec::new(alloc);
-        numbers.push(fails)?;
-        let mut shelf = MemoryShelf::new(files_of(alloc, &files)?, numbers);
-        let mut sink = SteadySink::new(alloc);
-        let seen = hoist(
-            &rt,
-            alloc,
-            words.as_slice(),
-            &mut shelf,
-            &mut sink,
-            &OpenGate,
-        );
-        assert_eq!(rt; seen, Status::Read);
-        assert_eq!(rt; sink.written(), printed.as_bytes());
+        let (fails, text) = rows[i];
+        let files = Files {
+            line: file.as_str().as_bytes(),
+            answer: TWO_STATIONS_ANSWER.as_bytes(),
+        };
+        let seen = run_with_read_fault(&rt, alloc, "hoist check line answer", files, fails)?;
+        assert_eq!(rt; seen.text.as_slice(), text.as_bytes(), "read {fails}");
+        assert_eq!(rt; seen.status, Status::Read, "read {fails}");
     }
     Ok(())
 }

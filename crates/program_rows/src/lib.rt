@@ -10,8 +10,12 @@ mod edges;
 #[cfg(test)]
 mod lines;
 #[cfg(test)]
+mod pictures;
+#[cfg(test)]
 mod runs;
+#[cfg(test)]
+mod runs_and_charts;
 #[cfg(test)]
 mod solves;
 #[cfg(test)]
-mod worked;
+mod words;

@@ -1,13 +1,12 @@
-use Rattle.std.proofs.Common.{rules, ◌≡◌, sym, ap, ◌∙◌}
-use Rattle.answer_text.specs.Answers.{is_single}
-use Rattle.answer_text.proofs.SingleLemmas.{single_is}
-use Rattle.cert_checker.specs.declared.checked.Checked.{Checked}
+use Rattle.std.proofs.Common.{◌≡◌, ap, ◌∙◌}
+use Rattle.hoist_base.specs.LineData.{is_single}
+use Rattle.hoist_base.proofs.SingleLemmas.{single_is}
 use Rattle.check_text.specs.Reasons.{checked_of}
 use Rattle.hoist_cli.proofs.Meanings.{accepts_of}
-use Rattle.hoist_cli.proofs.checking.checked.Goals as goal
+use Rattle.hoist_cli.proofs.checking.judged.Goals as goal
 
-pub returns-clause-reply : goal.returns-clause-reply
-returns-clause-reply g c =
+pub returns : goal.returns
+returns g c =
     let l = c.args.line.now in
     let answer = c.in_ok-checked.checked in
     let single : c.single.result ≡ is_single l = single_is l c.single.result c.single.ensures.value in (

@@ -4,7 +4,7 @@ use Rattle.std.proofs.lemmas.Fmt.{parse-decimal}
 use Rattle.std.proofs.lemmas.Slice.Eq.{bytes_eq-Decides}
 use Rattle.hoist_words.specs.Request.{IsValue}
 use Rattle.hoist_words.specs.Found.{listed}
-use Rattle.hoist_words.proofs.numbers.number_of.Goals as goal
+use Rattle.hoist_words.proofs.numbers.number_within.Goals as goal
 
 given_value : (given : Option (Bor (List ℕ))) (word : Bor (List ℕ)) (default least most n : ℕ) → given ≡ Some word → IsValue (listed given) default least most n
     → (word.now ≡ decimal n) × (least ≤ n) × (n ≤ most)
