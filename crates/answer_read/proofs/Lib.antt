@@ -6,4 +6,5 @@ pub mod TableLines
 pub mod TableRead
 pub mod NodeRows
 pub mod Orders
+pub mod Told
 pub mod Whole

@@ -1,6 +1,6 @@
 -- The lines of the timetable are read as they are written.
 use Rattle.std.proofs.Common.{◌≡◌, ℕ, zero, suc, ◌+◌, ◌*◌, ◌-◌, ◌/◌, ◌%◌, ◌^◌, ◌<◌, ◌≤◌, List, [], ◌∷◌, ◌++◌, length, get_or, map, take, drop, codes, decimal}
-use Rattle.std.proofs.Common.{Bool, true, false, cond, eqb, ltb, ⊎_elim, Result, Ok, Err, refl, sym, ap, subst, ◌∙◌, append_assoc, arith, length-append}
+use Rattle.std.proofs.Common.{Bool, true, false, cond, eqb, ltb, ⊎_elim, Result, Ok, refl, sym, ap, subst, ◌∙◌, append_assoc, arith, length-append}
 use Rattle.std.proofs.Common.{length-drop}
 use Rattle.std.specs.List.{flat_map, range_with_len, concat, Contains}
 use Rattle.std.proofs.lemmas.List.{nil_from_length, get_or_default, get_or_past, get_or_append_left, get_or-append_right, take-append-drop, length-take-le}
@@ -20,7 +20,7 @@ use Rattle.timetable.specs.TimetableData.{last_tick}
 use Rattle.text_writing.specs.Texts.{end, pair_text}
 use Rattle.answer_text.specs.Limits.{most_position}
 use Rattle.answer_text.specs.Tables.{choice_number, each_below}
-use Rattle.field_reading.specs.Reading.{◌>>=◌, number_at, both_at, ended, items_at}
+use Rattle.field_reading.specs.Reading.{number_at, both_at, ended, items_at}
 use Rattle.answer_read.specs.Tables.{unzipped, carrier_at, carriers_at, chosen_at, choice_at, choices_at, move_at, moves_at, position_at, path_at, paths_at}
 use Rattle.field_reading.specs.Reads.{Reads, NoDigit, InRange, Any}
 use Rattle.field_reading.proofs.Field.{word_reads, made_reads, done_reads, retext}

@@ -1,5 +1,5 @@
 -- A whole answer.
-use Rattle.std.proofs.Common.{◌≡◌, ℕ, zero, suc, ◌+◌, ◌-◌, ◌^◌, ◌<◌, ◌≤◌, List, [], ◌∷◌, ◌++◌, length, take, codes, decimal, Bool, inl, inr, Option, None}
+use Rattle.std.proofs.Common.{◌≡◌, ℕ, ◌+◌, ◌-◌, ◌^◌, ◌<◌, ◌≤◌, List, [], ◌∷◌, ◌++◌, length, codes, decimal, Bool, inl, inr, Option, None}
 use Rattle.std.proofs.Common.{Result, Ok, Err, refl, sym, ap, subst, ◌∙◌, append_assoc, arith, length-append}
 use Rattle.std.proofs.lemmas.List.{append-nil, nil_from_length}
 use Rattle.hoist_base.specs.LineData.{LineData, is_single}
@@ -23,6 +23,7 @@ use Rattle.answer_read.specs.Trees.{tree_of, rows_at, tree_at}
 use Rattle.answer_read.specs.Tables.{timetable_at}
 use Rattle.answer_read.specs.Parts.{verdicts, verdict_at, numbers_at, table_part_at, tree_part_at, answer_at}
 use Rattle.answer_read.specs.Answers.{IsAnswer, IsNumbered, IsTextOf, BreaksAt}
+use Rattle.answer_read.specs.Same.{SayTheSame}
 use Rattle.field_reading.specs.Reads.{SameHead, Reads, NoDigit, InRange, Any, In, AreApart}
 use Rattle.field_reading.proofs.Field.{then_reads, word_reads, made_reads}
 use Rattle.field_reading.proofs.Numbers.{number_read}
@@ -30,6 +31,7 @@ use Rattle.field_reading.proofs.Words.{kind_read, apart_is, worded_reads, both_r
 use Rattle.field_reading.proofs.Wholes.{breaks_at, same_cut, not_empty, whole_read}
 use Rattle.answer_read.proofs.Growing.{AreRows, rows_text, rows_read}
 use Rattle.answer_read.proofs.TableRead.{IsTableOr, timetable_read}
+use Rattle.answer_read.proofs.Told.{same_said}
 use Rattle.answer_read.proofs.Orders.{lines_of, lines_are_rows, tree_is_tree, tree_again, tree_has_lines, tree_from_lines}
 
 -- an answer with its tree as lines
@@ -400,6 +402,27 @@ text_read l bytes a line h =
     ap with_tree (tree_from_lines (is_single l) a.tree h.answer.tree h.answer.writable.nodes h.numbered) in
     let found = whole_read (FitsParts l most) (parts_text l) bytes (parts_of a) (lines_at l bytes) fits text (lines_read l most bytes line (omega arith)) in
     answer_is l bytes ∙ ap (λ (r : Result (Parts × List ℕ) ℕ). r >>= answered) found ∙ ap (λ (x : Answer). Ok (x, [])) same
+
+-- answers with one text say the same
+pub same_text : (l : LineData) (a b : Answer) → IsLine l → IsAnswer l a → IsAnswer l b → answer_text l a ≡ answer_text l b → SayTheSame a b
+same_text l a b line f g e =
+    let bytes = answer_text l a in
+    let most = length (lines_of a.tree) + length (lines_of b.tree) + length bytes + 7 in
+    let read : (x : Answer) → IsAnswer l x → length (lines_of x.tree) ≤ most → bytes ≡ answer_text l x → lines_at l bytes ≡ Ok (parts_of x, []) =
+    λ x h few same.
+    whole_read (FitsParts l most) (parts_text l) bytes (parts_of x) (lines_at l bytes) (parts_fit l most x h few) (same ∙ parts_text_is l x h)
+    (lines_read l most bytes line (omega arith)) in
+    let both : Ok (parts_of a, []) ≡ Ok (parts_of b, []) = sym (read a f (omega arith) refl) ∙ read b g (omega arith) e in
+    let pair : (parts_of a, []) ≡ (parts_of b, []) = cc in
+    let parts : parts_of a ≡ parts_of b = ap (λ (y : Parts × List ℕ). y.0) pair in
+    record {
+      verdict = ap (λ (x : Parts). x.verdict) parts;
+      bound = ap (λ (x : Parts). x.bound) parts;
+      splits = ap (λ (x : Parts). x.splits) parts;
+      timetable = ap (λ (x : Parts). x.timetable) parts;
+      tree =
+          same_said (is_single l) a.tree b.tree f.tree g.tree f.writable.nodes g.writable.nodes (ap (λ (x : Parts). x.lines) parts);
+    }
 
 pub same_read : (l : LineData) (bytes rest : List ℕ) (a b : Answer) → IsLine l → answer_at l bytes ≡ Ok (a, rest) → IsTextOf l bytes b
     → (a ≡ b) × (length rest ≡ 0)

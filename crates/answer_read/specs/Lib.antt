@@ -3,3 +3,4 @@ pub mod Trees
 pub mod Tables
 pub mod Parts
 pub mod Answers
+pub mod Same

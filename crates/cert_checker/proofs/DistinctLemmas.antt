@@ -165,12 +165,15 @@ distinct_below nodes tree (suc depth) i p lead =
     not_below nodes tree i (get_or cs r.0 0) p (record { question = question; child = 0 + r.0 }) depth lead (row r.0 r.1) r.2)
     (mutual_row nodes tree i 0 p question depth cs lead row (λ c q l. distinct_below nodes tree depth c q l))
 
+pub preorder_distinct : (nodes : List Node) → IsTree nodes → AreDistinct (preorder nodes)
+preorder_distinct nodes tree = distinct_below nodes tree (length nodes) 0 [] refl
+
 -- so there are not more places than nodes
 pub preorder_short : (nodes : List Node) → IsTree nodes → length (preorder nodes) ≤ length nodes
 preorder_short nodes tree =
     ⊎_elim
     (λ long.
-    let distinct = distinct_below nodes tree (length nodes) 0 [] refl in
+    let distinct = preorder_distinct nodes tree in
     let f : ℕ → ℕ = λ k. get_or (preorder nodes) k 0 in
     let there : (k : ℕ) → k ≤ length nodes → f k < length nodes =
     λ k le. All-get_or (λ j. j < length nodes) (preorder nodes) k 0 (omega (arith, le, long)) (preorder_there nodes tree) in

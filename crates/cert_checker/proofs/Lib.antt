@@ -5,4 +5,5 @@ pub mod DistinctLemmas
 pub mod FlawLemmas
 pub mod LeafLemmas
 pub mod TreeLemmas
+pub mod PassLemmas
 pub mod RuleLemmas

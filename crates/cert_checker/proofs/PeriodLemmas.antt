@@ -1,10 +1,9 @@
 -- Periods that walks refute: each walk those on one side of a number.
-use Rattle.std.proofs.Common.{◌≡◌, ℕ, ◌*◌, ◌<◌, ◌≤◌, ⊎_elim, inl, inr, sym, subst, Option, Some, None, ℤ, pos, negsuc, ◌+ℤ◌, ◌*ℤ◌, ◌<ℤ◌, arith}
+use Rattle.std.proofs.Common.{◌≡◌, ℕ, ◌*◌, ◌<◌, ◌≤◌, ⊎_elim, inl, inr, Option, Some, None, ℤ, pos, negsuc, ◌+ℤ◌, ◌*ℤ◌, ◌<ℤ◌, arith}
 use Rattle.std.specs.Prelude.{unsigned_abs, max}
 use Rattle.std.proofs.lemmas.Int.{ints, by_lt_z}
 use Rattle.std.proofs.lemmas.Bool.{cases_lt}
 use Rattle.std.proofs.lemmas.Nat.{mul-le}
-use Rattle.longest_path.specs.System.{Refutes}
 use Rattle.cycle_walk.proofs.ClimbLemmas.{refutes_on}
 use Rattle.cycle_walk.specs.declared.sums.Sums.{Sums}
 use Rattle.cert_checker.specs.Followed.{Gives, AllGiven}

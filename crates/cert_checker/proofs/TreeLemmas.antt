@@ -1,5 +1,5 @@
 -- The way through a tree in preorder.
-use Rattle.std.proofs.Common.{⊎_elim, Bool, ◌≡◌, ℕ, suc, ◌+◌, ◌<◌, ◌≤◌, List, [], ◌∷◌, ◌++◌, length, get_or, take, drop, map, reverse, refl, sym, ◌∙◌, ap, subst, arith}
+use Rattle.std.proofs.Common.{⊎_elim, Bool, IsTrue, ◌≡◌, ℕ, suc, ◌+◌, ◌<◌, ◌≤◌, List, [], ◌∷◌, ◌++◌, length, get_or, take, drop, map, reverse, refl, sym, ◌∙◌, ap, subst, arith}
 use Rattle.std.specs.Prelude.{flat_map}
 use Rattle.std.proofs.lemmas.Bool.{cases_lt}
 use Rattle.std.proofs.lemmas.List.{length-drop, get_or-drop, drop-drop, map-append, take_all, take-append-le, reverse-append, reverse-reverse, append-nil, length-append}
@@ -20,7 +20,7 @@ use Rattle.path_constraints.proofs.CoverTreeLemmas.{fits_more}
 use Rattle.answer_text.specs.Nodes.{IsNodeText, IsQuestionText}
 use Rattle.cert_checker.specs.declared.reason.Reason.{Reason}
 use Rattle.cert_checker.specs.declared.tree.Waiting.{Waiting}
-use Rattle.cert_checker.specs.Reasons.{number_at, StandsAt, IsFlawed}
+use Rattle.cert_checker.specs.Reasons.{number_at, StandsAt, IsFlawed, is_split}
 use Rattle.cert_checker.specs.Flaws.{HasFlaw}
 use Rattle.cert_checker.specs.Judged.{IsFirstFlaw}
 use Rattle.cert_checker.specs.Waiting.{waits_of, waits_below, IsFirstFlawed}
@@ -71,23 +71,21 @@ ready_children l nodes path question m (c ∷ cs) ws each h =
     (each (suc k) (omega (arith, lt)))) h in
     (omega arith, subst P (sym whole) (subst N zero_in (each 0 (omega arith))), subst Q (sym whole) rest)
 
--- where one is: at node number n, with its path and the nodes that wait; all nodes before it show what they are to show
-pub record IsOnWay (l : LineData) (nodes : List Node) (bound n at : ℕ) (path : List Decision) (waiting : List Waiting) : Type 0 where
+-- where one is: at node number n, with its path and the nodes that wait
+pub record IsOnWay (l : LineData) (nodes : List Node) (n at : ℕ) (path : List Decision) (waiting : List Waiting) : Type 0 where
   pub here : IsReady l nodes path at
   pub left_over : drop n (preorder nodes) ≡ below nodes at ++ flat_map (below nodes) (map (λ (w : Waiting). w.node) (reverse waiting))
   pub ready : AreReady l nodes path (reverse waiting)
-  pub shown : (m i : ℕ) (p : List Decision) → m < n → StandsAt nodes m i p → Shows l p (node_at nodes i) bound
 
-pub on_way_first : (l : LineData) (nodes : List Node) (bound : ℕ) (path : List Decision) (waiting : List Waiting) → IsTree nodes → path ≡ [] → waiting ≡ []
-    → IsOnWay l nodes bound 0 0 path waiting
-on_way_first l nodes bound path waiting tree e f =
-    let P : List Decision → Type 0 = λ ds. IsOnWay l nodes bound 0 0 ds waiting in
-    let Q : List Waiting → Type 0 = λ ws. IsOnWay l nodes bound 0 0 [] ws in
+pub on_way_first : (l : LineData) (nodes : List Node) (path : List Decision) (waiting : List Waiting) → IsTree nodes → path ≡ [] → waiting ≡ []
+    → IsOnWay l nodes 0 0 path waiting
+on_way_first l nodes path waiting tree e f =
+    let P : List Decision → Type 0 = λ ds. IsOnWay l nodes 0 0 ds waiting in
+    let Q : List Waiting → Type 0 = λ ws. IsOnWay l nodes 0 0 [] ws in
     subst P (sym e) (subst Q (sym f) (record {
       here = record { leads = refl; fits = λ i lt. absurd (omega (arith, lt)); there = tree.root };
       left_over = sym (append-nil (below nodes 0));
       ready = tt;
-      shown = λ m i p lt stands. absurd (omega (arith, lt));
     }))
 
 -- the node where one is has its number
@@ -101,20 +99,20 @@ first_left_over nodes n i rest e =
           ∙ first,
     )
 
-over_here : (l : LineData) (nodes : List Node) (bound n at : ℕ) (path : List Decision) (waiting : List Waiting) → IsTree nodes
-    → IsOnWay l nodes bound n at path waiting
+over_here : (l : LineData) (nodes : List Node) (n at : ℕ) (path : List Decision) (waiting : List Waiting) → IsTree nodes
+    → IsOnWay l nodes n at path waiting
     → drop n (preorder nodes) ≡ at ∷ flat_map (below nodes) (children_of (node_at nodes at) ++ map (λ (w : Waiting). w.node) (reverse waiting))
-over_here l nodes bound n at path waiting tree way =
+over_here l nodes n at path waiting tree way =
     let rest = map (λ (w : Waiting). w.node) (reverse waiting) in
     let cs = children_of (node_at nodes at) in
     way.left_over
     ∙ ap (λ (xs : List ℕ). xs ++ flat_map (below nodes) rest) (below_step nodes tree at way.here.there)
     ∙ ap (λ (xs : List ℕ). at ∷ xs) (sym (flat_map-append (below nodes) cs rest))
 
-pub stands_here : (l : LineData) (nodes : List Node) (bound n at : ℕ) (path : List Decision) (waiting : List Waiting) → IsTree nodes
-    → IsOnWay l nodes bound n at path waiting → StandsAt nodes n at path
-stands_here l nodes bound n at path waiting tree way =
-    let r = first_left_over nodes n at _ (over_here l nodes bound n at path waiting tree way) in
+pub stands_here : (l : LineData) (nodes : List Node) (n at : ℕ) (path : List Decision) (waiting : List Waiting) → IsTree nodes
+    → IsOnWay l nodes n at path waiting → StandsAt nodes n at path
+stands_here l nodes n at path waiting tree way =
+    let r = first_left_over nodes n at _ (over_here l nodes n at path waiting tree way) in
     record { there = r.0; is = r.1; leads = way.here.leads }
 
 -- only this node and path stand there
@@ -124,17 +122,20 @@ same_stand nodes n i j p q tree a b =
     let P : ℕ → Type 0 = λ k. IsPathTo nodes k p in
     (e, one_path nodes j p q tree (subst P e a.leads) b.leads)
 
--- ---- a flaw
+-- ---- the nodes before one
 
-pub flawed_here : (l : LineData) (nodes : List Node) (bound n at : ℕ) (path : List Decision) (waiting : List Waiting) (r : Reason) → IsTree nodes
-    → IsOnWay l nodes bound n at path waiting → IsFirstFlaw l path (node_at nodes at) bound n r → IsFirstFlawed l nodes bound r
-flawed_here l nodes bound n at path waiting r tree way first =
-    let stands = stands_here l nodes bound n at path waiting tree way in
+-- all nodes before number n show what they are to show
+abbrev pub AreShown : LineData → List Node → ℕ → ℕ → Type 0
+AreShown l nodes bound n = (m i : ℕ) (p : List Decision) → m < n → StandsAt nodes m i p → Shows l p (node_at nodes i) bound
+
+pub flawed_here : (l : LineData) (nodes : List Node) (bound n at : ℕ) (path : List Decision) (r : Reason) → IsTree nodes
+    → StandsAt nodes n at path → AreShown l nodes bound n → IsFirstFlaw l path (node_at nodes at) bound n r → IsFirstFlawed l nodes bound r
+flawed_here l nodes bound n at path r tree stands shown first =
     let F : ℕ → Type 0 = λ k. IsFlawed l nodes bound k r in
     let flawed : IsFlawed l nodes bound n r = record { node = at; path = path; stands = stands; flaw = first.has } in
     record {
       has = subst F (sym first.names) flawed;
-      first = λ m s lt f. no_flaw_shown l f.path (node_at nodes f.node) bound s (way.shown m f.node f.path (omega (arith, lt, first.names)) f.stands) f.flaw;
+      first = λ m s lt f. no_flaw_shown l f.path (node_at nodes f.node) bound s (shown m f.node f.path (omega (arith, lt, first.names)) f.stands) f.flaw;
       first_here = λ s f less.
           let S : ℕ → Type 0 = λ k. StandsAt nodes k f.node f.path in
           let same = same_stand nodes n f.node at f.path path tree (subst S first.names f.stands) stands in
@@ -143,37 +144,35 @@ flawed_here l nodes bound n at path waiting r tree way first =
           first.first s (subst Q same.1 (subst P same.0 f.flaw)) less;
     }
 
--- ---- on to the next node
-
 -- all nodes up to this one show it
-shown_more : (l : LineData) (nodes : List Node) (bound n at : ℕ) (path : List Decision) (waiting : List Waiting) → IsTree nodes
-    → IsOnWay l nodes bound n at path waiting → Shows l path (node_at nodes at) bound
-    → (m i : ℕ) (p : List Decision) → m < n + 1 → StandsAt nodes m i p → Shows l p (node_at nodes i) bound
-shown_more l nodes bound n at path waiting tree way shows m i p lt stands =
-    ⊎_elim (λ before. way.shown m i p before stands)
+pub shown_more : (l : LineData) (nodes : List Node) (bound n at : ℕ) (path : List Decision) → IsTree nodes
+    → StandsAt nodes n at path → AreShown l nodes bound n → Shows l path (node_at nodes at) bound → AreShown l nodes bound (n + 1)
+shown_more l nodes bound n at path tree here shown shows m i p lt stands =
+    ⊎_elim (λ before. shown m i p before stands)
     (λ ge.
     let e : m ≡ n = omega (arith, lt, ge) in
     let S : ℕ → Type 0 = λ k. StandsAt nodes k i p in
-    let same = same_stand nodes n i at p path tree (subst S e stands) (stands_here l nodes bound n at path waiting tree way) in
+    let same = same_stand nodes n i at p path tree (subst S e stands) here in
     let P : ℕ → Type 0 = λ k. Shows l p (node_at nodes k) bound in
     let Q : List Decision → Type 0 = λ ds. Shows l ds (node_at nodes at) bound in
     subst P (sym same.0) (subst Q (sym same.1) shows))
     (cases_lt m n)
 
+-- ---- on to the next node
+
 -- where one is, with the children of this node waiting
-pub record IsPushed (l : LineData) (nodes : List Node) (bound n : ℕ) (path : List Decision) (waiting : List Waiting) : Type 0 where
+pub record IsPushed (l : LineData) (nodes : List Node) (n : ℕ) (path : List Decision) (waiting : List Waiting) : Type 0 where
   pub left_over : drop (n + 1) (preorder nodes) ≡ flat_map (below nodes) (map (λ (w : Waiting). w.node) (reverse waiting))
   pub ready : AreReady l nodes path (reverse waiting)
-  pub shown : (m i : ℕ) (p : List Decision) → m < n + 1 → StandsAt nodes m i p → Shows l p (node_at nodes i) bound
 
 drop_one : (n i : ℕ) (xs rest : List ℕ) → drop n xs ≡ i ∷ rest → drop (n + 1) xs ≡ rest
 drop_one n i xs rest e =
     sym (drop-drop 1 n xs) ∙ ap (λ (ys : List ℕ). drop 1 ys) e
 
-children_ready : (l : LineData) (nodes : List Node) (at : ℕ) (path : List Decision) (question : Question) (cs : List ℕ) (bound : ℕ) → IsTree nodes
+children_ready : (l : LineData) (nodes : List Node) (at : ℕ) (path : List Decision) (question : Question) (cs : List ℕ) → IsTree nodes
     → IsReady l nodes path at → node_at nodes at ≡ Split question cs → IsWholeSplit l path question cs
     → (k : ℕ) → k < length cs → IsReady l nodes (path ++ (let d : Decision = record { question = question; child = 0 + k } in d) ∷ []) (get_or cs k 0)
-children_ready l nodes at path question cs bound tree here split whole k lt =
+children_ready l nodes at path question cs tree here split whole k lt =
     let d : Decision = record { question = question; child = 0 + k } in
     let z : 0 + k ≡ k = omega arith in
     let b : Branches nodes at d (get_or cs k 0) = record { children = cs; split = split; there = omega (arith, lt); child = ap (λ (n : ℕ). get_or cs n 0) z } in
@@ -183,11 +182,11 @@ children_ready l nodes at path question cs bound tree here split whole k lt =
       there = (branch_later nodes at d (get_or cs k 0) tree b).1;
     }
 
-pub pushed_split : (l : LineData) (nodes : List Node) (bound n at : ℕ) (path : List Decision) (waiting pushed : List Waiting) (question : Question)
+pushed_split : (l : LineData) (nodes : List Node) (n at : ℕ) (path : List Decision) (waiting pushed : List Waiting) (question : Question)
     (cs : List ℕ)
-    → IsTree nodes → IsOnWay l nodes bound n at path waiting → node_at nodes at ≡ Split question cs
-    → Shows l path (node_at nodes at) bound → pushed ≡ waiting ++ reverse (waits_of (length path) question 0 cs) → IsPushed l nodes bound n path pushed
-pushed_split l nodes bound n at path waiting pushed question cs tree way split shows is =
+    → IsTree nodes → IsOnWay l nodes n at path waiting → node_at nodes at ≡ Split question cs
+    → IsWholeSplit l path question cs → pushed ≡ waiting ++ reverse (waits_of (length path) question 0 cs) → IsPushed l nodes n path pushed
+pushed_split l nodes n at path waiting pushed question cs tree way split whole is =
     let ws = waits_of (length path) question 0 cs in
     let turned : reverse pushed ≡ ws ++ reverse waiting =
     ap (λ (xs : List Waiting). reverse xs) is ∙ reverse-append waiting (reverse ws) ∙ ap (λ (xs : List Waiting). xs ++ reverse waiting) (reverse-reverse ws) in
@@ -195,9 +194,7 @@ pushed_split l nodes bound n at path waiting pushed question cs tree way split s
     let name : Waiting → ℕ = λ w. w.node in
     let names : map name (ws ++ reverse waiting) ≡ cs ++ map name (reverse waiting) =
     map-append name ws (reverse waiting) ∙ ap (λ (xs : List ℕ). xs ++ map name (reverse waiting)) (nodes-waits (length path) question 0 cs) in
-    let over = drop_one n at (preorder nodes) _ (over_here l nodes bound n at path waiting tree way) in
-    let S : Node → Type 0 = λ node. Shows l path node bound in
-    let whole : IsWholeSplit l path question cs = subst S split shows in
+    let over = drop_one n at (preorder nodes) _ (over_here l nodes n at path waiting tree way) in
     let A : List Waiting → Type 0 = λ xs. AreReady l nodes path xs in
     record {
       left_over =
@@ -205,26 +202,24 @@ pushed_split l nodes bound n at path waiting pushed question cs tree way split s
           ∙ ap (λ (xs : List ℕ). flat_map (below nodes) xs) (sym names) ∙ ap (λ (xs : List Waiting). flat_map (below nodes) (map name xs)) (sym turned);
       ready =
           subst A (sym turned) (ready_children l nodes path question 0 cs (reverse waiting)
-          (children_ready l nodes at path question cs bound tree way.here split whole) way.ready);
-      shown = shown_more l nodes bound n at path waiting tree way shows;
+          (children_ready l nodes at path question cs tree way.here split whole) way.ready);
     }
 
-pub pushed_leaf : (l : LineData) (nodes : List Node) (bound n at : ℕ) (path : List Decision) (waiting : List Waiting) → IsTree nodes
-    → IsOnWay l nodes bound n at path waiting → children_of (node_at nodes at) ≡ [] → Shows l path (node_at nodes at) bound
-    → IsPushed l nodes bound n path waiting
-pushed_leaf l nodes bound n at path waiting tree way none shows =
+pushed_leaf : (l : LineData) (nodes : List Node) (n at : ℕ) (path : List Decision) (waiting pushed : List Waiting) → IsTree nodes
+    → IsOnWay l nodes n at path waiting → children_of (node_at nodes at) ≡ [] → pushed ≡ waiting ++ [] → IsPushed l nodes n path pushed
+pushed_leaf l nodes n at path waiting pushed tree way none is =
+    let P : List Waiting → Type 0 = λ ws. IsPushed l nodes n path ws in
     let name : Waiting → ℕ = λ w. w.node in
-    let over = drop_one n at (preorder nodes) _ (over_here l nodes bound n at path waiting tree way) in
-    record {
+    let over = drop_one n at (preorder nodes) _ (over_here l nodes n at path waiting tree way) in
+    subst P (sym (is ∙ append-nil waiting)) (record {
       left_over = over ∙ ap (λ (xs : List ℕ). flat_map (below nodes) (xs ++ map name (reverse waiting))) none;
       ready = way.ready;
-      shown = shown_more l nodes bound n at path waiting tree way shows;
-    }
+    })
 
 -- the next node is taken
-pub way_on : (l : LineData) (nodes : List Node) (bound n : ℕ) (path : List Decision) (pushed popped : List Waiting) (w : Waiting) (next : List Decision)
-    → IsPushed l nodes bound n path pushed → pushed ≡ popped ++ w ∷ [] → next ≡ path_of path w → IsOnWay l nodes bound (n + 1) w.node next popped
-way_on l nodes bound n path pushed popped w next p e is =
+pub way_on : (l : LineData) (nodes : List Node) (n : ℕ) (path : List Decision) (pushed popped : List Waiting) (w : Waiting) (next : List Decision)
+    → IsPushed l nodes n path pushed → pushed ≡ popped ++ w ∷ [] → next ≡ path_of path w → IsOnWay l nodes (n + 1) w.node next popped
+way_on l nodes n path pushed popped w next p e is =
     let turned : reverse pushed ≡ w ∷ reverse popped = ap (λ (xs : List Waiting). reverse xs) e ∙ reverse-append popped (w ∷ []) in
     let A : List Waiting → Type 0 = λ xs. AreReady l nodes path xs in
     let ready = subst A turned p.ready in
@@ -235,24 +230,23 @@ way_on l nodes bound n path pushed popped w next p e is =
       here = subst R (sym is) ready.1;
       left_over = p.left_over ∙ ap (λ (xs : List Waiting). flat_map (below nodes) (map name xs)) turned;
       ready = subst B (sym is) (ready_longer l nodes (take w.above path) (w.decision ∷ []) (reverse popped) ready.2);
-      shown = p.shown;
     }
 
 -- no node waits: the tree proves the bound
 pub way_ends : (l : LineData) (nodes : List Node) (bound n : ℕ) (path : List Decision) (pushed : List Waiting) → IsTree nodes
-    → IsPushed l nodes bound n path pushed → pushed ≡ [] → Proves l nodes bound
-way_ends l nodes bound n path pushed tree p none i q lt leads =
+    → IsPushed l nodes n path pushed → pushed ≡ [] → AreShown l nodes bound (n + 1) → Proves l nodes bound
+way_ends l nodes bound n path pushed tree p none shown i q lt leads =
     let name : Waiting → ℕ = λ v. v.node in
     let over : drop (n + 1) (preorder nodes) ≡ [] = p.left_over ∙ ap (λ (xs : List Waiting). flat_map (below nodes) (map name (reverse xs))) none in
     let size = ap (λ (xs : List ℕ). length xs) over in
     let (m, there, is) = place_of_path nodes tree i q leads in
-    p.shown m i q (omega (arith, there, size, length-drop (n + 1) (preorder nodes))) (record { there = there; is = is; leads = leads })
+    shown m i q (omega (arith, there, size, length-drop (n + 1) (preorder nodes))) (record { there = there; is = is; leads = leads })
 
 -- one isn't past the last node
-pub way_within : (l : LineData) (nodes : List Node) (bound n at : ℕ) (path : List Decision) (waiting : List Waiting) → IsTree nodes
-    → IsOnWay l nodes bound n at path waiting → n < length nodes
-way_within l nodes bound n at path waiting tree way =
-    omega (arith, (stands_here l nodes bound n at path waiting tree way).there, preorder_short nodes tree)
+pub way_within : (l : LineData) (nodes : List Node) (n at : ℕ) (path : List Decision) (waiting : List Waiting) → IsTree nodes
+    → IsOnWay l nodes n at path waiting → n < length nodes
+way_within l nodes n at path waiting tree way =
+    omega (arith, (stands_here l nodes n at path waiting tree way).there, preorder_short nodes tree)
 
 -- a node that has a text has few children
 few_asked : (single : Bool) (question : Question) (count : ℕ) → IsQuestionText single question count → count ≤ 6
@@ -269,35 +263,28 @@ few_children single (Solved low) text = omega arith
 few_children single (Left low) text = omega arith
 
 -- a node's children, at what the code reads
-pushed_none : (l : LineData) (nodes : List Node) (bound n at : ℕ) (path : List Decision) (waiting pushed : List Waiting) → IsTree nodes
-    → IsOnWay l nodes bound n at path waiting → children_of (node_at nodes at) ≡ [] → Shows l path (node_at nodes at) bound → pushed ≡ waiting ++ []
-    → IsPushed l nodes bound n path pushed
-pushed_none l nodes bound n at path waiting pushed tree way none shows is =
-    let P : List Waiting → Type 0 = λ ws. IsPushed l nodes bound n path ws in
-    subst P (sym (is ∙ append-nil waiting)) (pushed_leaf l nodes bound n at path waiting tree way none shows)
-
 pushed_at : (l : LineData) (nodes : List Node) (bound n at : ℕ) (path : List Decision) (waiting pushed : List Waiting) (node : Node) → IsTree nodes
-    → IsOnWay l nodes bound n at path waiting → node_at nodes at ≡ node → Shows l path (node_at nodes at) bound
-    → pushed ≡ waiting ++ reverse (waits_below (length path) node) → IsPushed l nodes bound n path pushed
+    → IsOnWay l nodes n at path waiting → node_at nodes at ≡ node → (IsTrue (is_split node) → Shows l path node bound)
+    → pushed ≡ waiting ++ reverse (waits_below (length path) node) → IsPushed l nodes n path pushed
 pushed_at l nodes bound n at path waiting pushed (Split question cs) tree way e shows is =
-    pushed_split l nodes bound n at path waiting pushed question cs tree way e shows is
+    pushed_split l nodes n at path waiting pushed question cs tree way e (shows refl) is
 pushed_at l nodes bound n at path waiting pushed (Closed low high) tree way e shows is =
-    pushed_none l nodes bound n at path waiting pushed tree way (ap children_of e) shows is
+    pushed_leaf l nodes n at path waiting pushed tree way (ap children_of e) is
 pushed_at l nodes bound n at path waiting pushed (Stuck m) tree way e shows is =
-    pushed_none l nodes bound n at path waiting pushed tree way (ap children_of e) shows is
+    pushed_leaf l nodes n at path waiting pushed tree way (ap children_of e) is
 pushed_at l nodes bound n at path waiting pushed (Solved low) tree way e shows is =
-    pushed_none l nodes bound n at path waiting pushed tree way (ap children_of e) shows is
+    pushed_leaf l nodes n at path waiting pushed tree way (ap children_of e) is
 pushed_at l nodes bound n at path waiting pushed (Left low) tree way e shows is =
-    pushed_none l nodes bound n at path waiting pushed tree way (ap children_of e) shows is
+    pushed_leaf l nodes n at path waiting pushed tree way (ap children_of e) is
 
 pub pushed_node : (l : LineData) (nodes : List Node) (bound n at : ℕ) (path slice : List Decision) (waiting pushed : List Waiting) (node : Node) (above : ℕ)
-    → IsTree nodes → IsOnWay l nodes bound n at path waiting → node ≡ node_at nodes at → slice ≡ path → above ≡ length slice → Shows l slice node bound
-    → pushed ≡ waiting ++ reverse (waits_below above node) → IsPushed l nodes bound n path pushed
+    → IsTree nodes → IsOnWay l nodes n at path waiting → node ≡ node_at nodes at → slice ≡ path → above ≡ length slice
+    → (IsTrue (is_split node) → Shows l slice node bound)
+    → pushed ≡ waiting ++ reverse (waits_below above node) → IsPushed l nodes n path pushed
 pushed_node l nodes bound n at path slice waiting pushed node above tree way read same up shows is =
-    let S : Node → Type 0 = λ x. Shows l path x bound in
-    let D : List Decision → Type 0 = λ ds. Shows l ds node bound in
+    let D : List Decision → Type 0 = λ ds. IsTrue (is_split node) → Shows l ds node bound in
     let depth : above ≡ length path = up ∙ ap (λ (ds : List Decision). length ds) same in
-    pushed_at l nodes bound n at path waiting pushed node tree way (sym read) (subst S read (subst D same shows))
+    pushed_at l nodes bound n at path waiting pushed node tree way (sym read) (subst D same shows)
     (is ∙ ap (λ (k : ℕ). waiting ++ reverse (waits_below k node)) depth)
 
 pub empty : (ws : List Waiting) → length ws ≡ 0 → ws ≡ []

@@ -7,3 +7,5 @@ pub mod Laws
 pub mod Followed
 pub mod Judged
 pub mod Waiting
+pub mod Passed
+pub mod Trying

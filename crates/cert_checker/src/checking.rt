@@ -29,7 +29,7 @@ fn claim_of(a: &Answer) -> Claimed
 /// The answer is one that has a text for this line. An accepted answer's timetable, where it has one, is legal, its
 /// tree proves its bound, and so no legal timetable of the line has a smaller period.
 pub fn check<R: Threads + Sync>(
-    _rt: &R,
+    rt: &R,
     alloc: Global,
     line: &Line,
     a: &Answer,
@@ -51,7 +51,7 @@ pub fn check<R: Threads + Sync>(
     if let Some(reason) = fault_reason(line, a) {
         return Ok(Checked::Rejected(reason));
     }
-    if let Some(reason) = first_flawed(alloc, line, &a.tree, a.bound)? {
+    if let Some(reason) = first_flawed(rt, alloc, line, &a.tree, a.bound)? {
         return Ok(Checked::Rejected(reason));
     }
     Ok(Checked::Accepted(claim_of(a)))

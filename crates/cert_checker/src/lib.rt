@@ -6,6 +6,7 @@ mod checking;
 mod claims;
 pub mod laws;
 mod nodes;
+mod passed;
 mod periods;
 mod reason;
 #[cfg(test)]

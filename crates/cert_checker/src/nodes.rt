@@ -5,11 +5,12 @@ ghost use Rattle.hoist_base.specs.Valid.{IsLine};
 ghost use Rattle.longest_path.specs.Bounds.{IsPeriod};
 ghost use Rattle.choice_tree.specs.declared.node.Node.{Node};
 ghost use Rattle.path_constraints.specs.Questions.{FitsPath};
-ghost use Rattle.path_constraints.specs.Proves.{IsWholeSplit};
+ghost use Rattle.path_constraints.specs.Proves.{IsWholeSplit, Shows};
 ghost use Rattle.path_constraints.specs.Tanks.{IsStuck};
 ghost use Rattle.answer_text.specs.Nodes.{IsNodeText, IsWalkOr};
-ghost use Rattle.cert_checker.specs.Judged.{IsNodeAnswer, IsJudged, AreUsable, sums_in};
+ghost use Rattle.cert_checker.specs.Judged.{IsFirstFlaw, IsNodeAnswer, IsJudged, AreUsable, sums_in};
 ghost use Rattle.cert_checker.specs.Judged as judged;
+ghost use Rattle.cert_checker.specs.Reasons as reasons;
 
 use crate::periods::first_open;
 use crate::reason::Reason;
@@ -209,4 +210,32 @@ pub(crate) fn node_reason(
         Node::Solved { low } => solved_reason(line, path, low, bound, number),
         Node::Left { low } => left_reason(line, path, low, bound, number),
     }
+}
+
+/// Whether a node is a split.
+pub(crate) fn is_split(node: &Node) -> bool
+    ensures { result ≡ reasons.is_split node.now }
+{
+    matches!(node, Node::Split { .. })
+}
+
+/// What is wrong with a node of the path where it is a split; a leaf is left for later.
+pub(crate) fn split_flaw(
+    line: &Line,
+    path: &[Decision],
+    node: &Node,
+    bound: u32,
+    number: u32,
+) -> Option<Reason>
+    ghost single: { Bool }
+    requires valid { IsLine line.now }
+    requires fits { FitsPath line.now path.now }
+    requires text { IsNodeText single node.now }
+    requires bound { IsPeriod bound }
+    ensures { MatchOption result (IsTrue (reasons.is_split node.now) → Shows line.now path.now node.now bound) (λ r. IsFirstFlaw line.now path.now node.now bound number r) }
+{
+    if !is_split(node) {
+        return None;
+    }
+    node_reason(line, path, node, bound, number)
 }

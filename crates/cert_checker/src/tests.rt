@@ -4,6 +4,7 @@ ghost use Rattle.choice_tree.specs.Nodes.{IsLeaf};
 ghost use Rattle.timetable.specs.TimetableData.{IsTimetableOf};
 ghost use Rattle.answer_text.specs.Answers.{HasSmallPath};
 
+use crate::tree::is_left;
 use crate::writable::is_tree;
 use crate::{Checked, Claimed, Reason, Sums, check};
 use answer_text::{Answer, Verdict};
@@ -13,7 +14,7 @@ use std::alloc::{AllocError, Global};
 use std::test::Fail;
 use std::thread::Threads;
 use timetable::{Fault, Timetable, TimetableParts};
-use worked_lines::{far_tank, slow_choice, two_hoists};
+use worked_lines::{far_tank, slow_choice, thirteen_stages, two_hoists};
 
 const MIN: Constraint = Constraint::Min { c: 0, k: 1 };
 
@@ -422,5 +423,69 @@ fn left_leaves_of_slow_choice(rt: HostRuntime) -> Result<(), Fail> {
     };
     let tree = left_choice(alloc, &[REPEAT])?;
     assert_eq!(rt; outcome(&rt, alloc, &line, said, tree), rejected(reason));
+    Ok(())
+}
+
+// A tree of so many splits, row by row: each row asks for the hoist of the next move, and all leaves have this walk.
+fn rows_of_hoists(alloc: Global, splits: u32, low: &[Constraint]) -> Result<Tree, AllocError> {
+    let mut tree = Tree::new(alloc)?;
+    let low = proof(alloc, low)?;
+    for k in 0..splits {
+        let step = (k + 1).ilog2() + 1;
+        let m = MoveId { carrier: 0, step };
+        if k < tree.len() && tree.len() < 4000 && is_left(tree.node(k)) {
+            tree.split(k, Question::Assign { m }, 2, &low)?;
+        }
+    }
+    Ok(tree)
+}
+
+// Calls the first move stuck at these leaves, which it isn't.
+fn spoil(tree: &mut Tree, leaves: &[u32]) {
+    for leaf in leaves {
+        if *leaf < tree.len() && is_left(tree.node(*leaf)) {
+            let m = MoveId {
+                carrier: 0,
+                step: 0,
+            };
+            tree.end(*leaf, Node::Stuck { m });
+        }
+    }
+}
+
+// So many leaves that threads share them: the first in preorder of those that are wrong is named.
+#[test]
+fn first_of_many_leaves(rt: HostRuntime) -> Result<(), Fail> {
+    let alloc = rt.alloc();
+    let line = thirteen_stages(alloc).ok_or("no line")?;
+    let said = Said {
+        verdict: Verdict::Unfinished,
+        bound: 1,
+        splits: 1023,
+        begin: None,
+    };
+    let stuck = MoveId {
+        carrier: 0,
+        step: 0,
+    };
+    let first = Reason::Stuck {
+        node: 1404,
+        m: stuck,
+    };
+    let later = Reason::Stuck {
+        node: 2004,
+        m: stuck,
+    };
+    let rows: [(&[u32], Option<Checked>); 3] = [
+        (&[], accepted(said, None)),
+        (&[2023, 1723], rejected(first)),
+        (&[2023], rejected(later)),
+    ];
+    for i in 0..rows.len() {
+        let (leaves, want) = rows[i];
+        let mut tree = rows_of_hoists(alloc, 1023, &[MIN, VISIT])?;
+        spoil(&mut tree, leaves);
+        assert_eq!(rt; outcome(&rt, alloc, &line, said, tree), want);
+    }
     Ok(())
 }

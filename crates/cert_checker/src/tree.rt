@@ -7,14 +7,15 @@ ghost use Rattle.choice_tree.specs.Trees.{IsTree, preorder};
 ghost use Rattle.hoist_base.specs.LineData.{is_single};
 ghost use Rattle.answer_text.specs.Nodes.{IsNodeText};
 ghost use Rattle.cert_checker.specs.Reasons.{split_count, IsLeftNode, number_at};
-ghost use Rattle.cert_checker.specs.Reasons as reasons;
 ghost use Rattle.cert_checker.specs.Waiting.{waits_of, waits_below, IsTreeAnswer};
 
-use crate::nodes::node_reason;
+use crate::nodes::{is_split, split_flaw};
+use crate::passed::Leaves;
 use crate::reason::Reason;
 use choice_tree::{Decision, Node, Question, Tree};
 use hoist_base::Line;
 use std::alloc::{AllocError, Global};
+use std::thread::Threads;
 
 /// A node that waits to be tried: so many decisions of the path above it stay, and then this one leads to it.
 #[derive(Clone, Copy)]
@@ -63,8 +64,10 @@ fn push_below(waiting: &mut Vec<Waiting>, node: &Node, above: usize) -> Result<(
 
 /// The first flaw of the first node in preorder that has one; None where the tree proves the bound.
 ///
-/// The path is kept while the tree is gone through, and not made anew for each node.
-pub(crate) fn first_flawed(
+/// The splits are tried on the way through the tree, since the paths below them have to fit. The leaves are kept with
+/// their paths, and tried by many threads.
+pub(crate) fn first_flawed<R: Threads + Sync>(
+    rt: &R,
     alloc: Global,
     line: &Line,
     tree: &Tree,
@@ -77,16 +80,22 @@ pub(crate) fn first_flawed(
 {
     let mut path: Vec<Decision> = Vec::new(alloc);
     let mut waiting: Vec<Waiting> = Vec::new(alloc);
+    let mut leaves = Leaves::new(alloc);
     let mut at = 0;
     for number in 0..tree.len() {
         let node = tree.node(at);
-        if let Some(reason) = node_reason(line, path.as_slice(), node, bound, number) {
-            return Ok(Some(reason));
+        if let Some(reason) = split_flaw(line, path.as_slice(), node, bound, number) {
+            let earlier = leaves.first_flaw(rt, line, tree, bound);
+            return Ok(earlier.or(Some(reason)));
         }
+        leaves.pass(number, at, node, path.as_slice())?;
         push_below(&mut waiting, node, path.len())?;
         let Some(next) = waiting.pop() else {
-            return Ok(None);
+            return Ok(leaves.first_flaw(rt, line, tree, bound));
         };
+        if let Some(reason) = leaves.try_many(rt, line, tree, bound) {
+            return Ok(Some(reason));
+        }
         path.truncate(next.above);
         path.push(next.decision)?;
         at = next.node;
@@ -94,13 +103,7 @@ pub(crate) fn first_flawed(
     Ok(None)
 }
 
-fn is_split(node: &Node) -> bool
-    ensures { result ≡ reasons.is_split node.now }
-{
-    matches!(node, Node::Split { .. })
-}
-
-fn is_left(node: &Node) -> bool
+pub(crate) fn is_left(node: &Node) -> bool
     ensures { IsTrue result ↔ IsLeft node.now }
 {
     matches!(node, Node::Left { .. })
