@@ -1,0 +1,5 @@
+pub mod Nodes
+pub mod Twins
+pub mod Counts
+pub mod Lengths
+pub mod Back
