@@ -20,4 +20,5 @@ pub mod DriveLaw
 pub mod RunLaw
 pub mod RunnerLaw
 pub mod LastOff
+pub mod LogOrder
 pub mod LogHolds

@@ -1,4 +1,4 @@
--- The log of a run leaves nothing out.
+-- The log of a run leaves nothing out; with what LogOrder says it is whole.
 use Rattle.std.proofs.Common.{◌≡◌, ℕ, zero, suc, ◌+◌, ◌-◌, ◌≤◌, ◌<◌, Option, Some, List, [], ◌∷◌, ◌++◌, length, slice_index_or, ⊎_elim, sym, refl, ap, subst, ◌∙◌, arith}
 use Rattle.std.specs.Prelude.{true, ◌==◌, ◌&&◌, map}
 use Rattle.std.specs.List.{Contains}
@@ -13,9 +13,10 @@ use Rattle.tick_machine.specs.declared.event.Event.{Event}
 use Rattle.tick_machine.specs.Layout.{layout_of}
 use Rattle.tick_machine.specs.Events.{given, collect, at_tick}
 use Rattle.startup_rundown.specs.RunLog.{run_end, set_at, off_at, put_at, begin_at, whats_at, events_at, events_from, first_tick, last_tick}
-use Rattle.startup_rundown.specs.LogLaws.{Logs, LogIsWhole}
+use Rattle.startup_rundown.specs.LogLaws.{Logs, LogsAll, LogIsWhole}
 use Rattle.startup_rundown.proofs.Plan.{IsVisit}
 use Rattle.startup_rundown.proofs.Ticks.{rest_lift, lift_leave, enter_rest, carry_order}
+use Rattle.startup_rundown.proofs.LogOrder.{log_only, log_once, log_ordered}
 use Rattle.startup_rundown.proofs.Picks.{pick_is, pick_move_is}
 use Rattle.startup_rundown.proofs.RunPlan.{IsRun, run_is, run_of, run_plan, puts_rise}
 use Rattle.startup_rundown.proofs.DriveLaw.{moves_are, leaves_at, starts_at, one_start}
@@ -154,12 +155,18 @@ set_logged l p n c k run there below =
     logged l p n t e (omega (arith, w.rest_from, m.rest)) (omega (arith, w.rest_lift, w.lift_leave, w.leave_to, m.rest))
     (in_first (collect l.hoists (set_at l p n t)) (given (off_at l p n t)) (given (put_at l p n t)) (collect l.hoists (begin_at l p n t)) e (collect_has l.hoists h (set_at l p n t) e (omega (arith, hoist.there, m.lifter)) is))
 
+logs_all : (l : LineData) (p : Timetable) (n : ℕ) → IsRun l p n → LogsAll l p n
+logs_all l p n run = record {
+  puts = λ c lt. put_logged l p n c run lt;
+  offs = λ c lt. off_logged l p n c run lt;
+  begins = λ c k lt below. begin_logged l p n c k run lt below;
+  sets = λ c k lt below. set_logged l p n c k run lt below;
+}
+
 pub log_is_whole : LogIsWhole
-log_is_whole l p n line legal =
-    let run = run_is l p n line legal in
-    record {
-      puts = λ c lt. put_logged l p n c run lt;
-      offs = λ c lt. off_logged l p n c run lt;
-      begins = λ c k lt below. begin_logged l p n c k run lt below;
-      sets = λ c k lt below. set_logged l p n c k run lt below;
-    }
+log_is_whole l p n line legal = record {
+  all = logs_all l p n (run_is l p n line legal);
+  only = log_only l p n;
+  once = log_once l p n;
+  ordered = log_ordered l p n;
+}
