@@ -89,7 +89,7 @@ carried_by l period frames p h c k z t shown at =
     }
 
 -- two copies of carriers with one number are one
-same_copy : (n r c c' z z' : ℕ) → c < r → c' < r → n + c + z * r ≡ n + c' + z' * r → (c ≡ c') × (z ≡ z')
+pub same_copy : (n r c c' z z' : ℕ) → c < r → c' < r → n + c + z * r ≡ n + c' + z' * r → (c ≡ c') × (z ≡ z')
 same_copy n r c c' z z' lt lt' e =
     ⊎_elim
     (λ same. let m : z * r ≡ z' * r = ap (λ (q : ℕ). q * r) same in (omega arith, same))

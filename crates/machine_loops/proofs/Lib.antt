@@ -13,3 +13,7 @@ pub mod LoopLaws
 pub mod RuleLemmas
 pub mod CheckLemmas
 pub mod TestLemmas
+pub mod SeenLemmas
+pub mod ReadLemmas
+pub mod MoveLemmas
+pub mod ReadTimetable

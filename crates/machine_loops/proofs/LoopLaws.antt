@@ -1,12 +1,11 @@
 -- Every loop shows a legal timetable.
-use Rattle.std.proofs.Common.{◌≡◌, ℕ, zero, suc, ◌+◌, ◌-◌, ◌*◌, ◌≤◌, ◌<◌, min, Option, Some, None, ⊎_elim, sym, refl, ap, ◌∙◌, arith}
+use Rattle.std.proofs.Common.{◌≡◌, ℕ, zero, suc, ◌+◌, ◌-◌, ◌*◌, ◌≤◌, ◌<◌, min, Some, ⊎_elim, sym, refl, ap, ◌∙◌, arith}
 use Rattle.std.proofs.lemmas.Nat.{mul-le}
 use Rattle.hoist_base.specs.LineData.{LineData, last_stage}
-use Rattle.hoist_base.specs.Valid.{IsLine}
 use Rattle.line_model.specs.Timetable.{Timetable}
 use Rattle.tick_machine.specs.declared.frame.Carry.{Carry}
 use Rattle.tick_machine.specs.Scene.{Scene, Command}
-use Rattle.machine_loops.specs.Loops.{Shows, IsLoopBy, frame_at, IsFirstBreak, ShowLegal, LoopsAreTimetables, NoLoopIsShorter}
+use Rattle.machine_loops.specs.Loops.{IsLoop, Shows, IsLoopBy, frame_at, LoopsAreTimetables, NoLoopIsShorter}
 use Rattle.machine_loops.proofs.Unrolled.{Unrolled, unrolled}
 use Rattle.machine_loops.proofs.History.{Begins, begin_stay, brought, one_begin}
 use Rattle.machine_loops.proofs.Legality.{legal}
@@ -110,17 +109,11 @@ no_loop_is_shorter l least line none period frames loop =
     let le = none p is_legal in
     omega arith
 
--- so does a loop by given orders
-loop_by : (l : LineData) (period : ℕ) (frames : ℕ → Scene) (orders : ℕ → Command) → IsLine l → IsLoopBy l period frames orders
-    → ShowLegal l period frames
-loop_by l period frames orders line loop =
-    loops_are_timetables l period frames line (record {
-      some = loop.some;
-      keeps = λ i lt. (loop.goes_on i lt).keeps;
-      steps = λ i lt. (orders i, (loop.goes_on i lt).leads);
-    })
-
-pub none_breaks : (l : LineData) (period : ℕ) (frames : ℕ → Scene) (orders : ℕ → Command) (found : Option ℕ) → IsLine l
-    → IsFirstBreak l period frames orders found → found ≡ None → ShowLegal l period frames
-none_breaks l period frames orders None line loop none = loop_by l period frames orders line loop
-none_breaks l period frames orders (Some index) line breaks none = absurd (let g = none in cc)
+-- a loop by given orders is a loop
+pub loop_of : (l : LineData) (period : ℕ) (frames : ℕ → Scene) (orders : ℕ → Command) → IsLoopBy l period frames orders
+    → IsLoop l period frames
+loop_of l period frames orders loop = record {
+  some = loop.some;
+  keeps = λ i lt. (loop.goes_on i lt).keeps;
+  steps = λ i lt. (orders i, (loop.goes_on i lt).leads);
+}

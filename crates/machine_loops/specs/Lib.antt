@@ -1,3 +1,5 @@
 pub mod Loops
 pub mod RuleTests
 pub mod Lists
+pub mod Reading
+pub mod Looped

@@ -1,11 +1,11 @@
 // Whether frames are a loop by given orders.
-ghost use Rattle.std.specs.Prelude.{◌≡◌, ℕ, ◌+◌, ◌^◌, ◌<◌, ◌≤◌, ◌↔◌, IsTrue, IfOk, All, None, length, get_or};
+ghost use Rattle.std.specs.Prelude.{◌≡◌, ℕ, ◌+◌, ◌^◌, ◌<◌, ◌≤◌, ◌↔◌, IsTrue, IfOk, All, length, get_or};
 ghost use Rattle.std.specs.Option.{option_map};
 ghost use Rattle.hoist_base.specs.Valid.{IsLine};
 ghost use Rattle.tick_machine.specs.Layout.{layout_of};
 ghost use Rattle.tick_machine.specs.Scene.{scene_of, IsSized, IsSizedOrder};
 ghost use Rattle.tick_machine.specs.Rules.{IsBelow, KeepsRules};
-ghost use Rattle.machine_loops.specs.Loops.{raised_carry, raised_hold, raised, frame_after, LeadsOn, IsFirstBreak, ShowLegal};
+ghost use Rattle.machine_loops.specs.Loops.{raised_carry, raised_hold, raised, frame_after, LeadsOn, IsFirstBreak};
 ghost use Rattle.machine_loops.specs.Lists.{scenes, commands};
 ghost use Rattle.machine_loops.specs.RuleTests.{CarryIsLater, HoldIsLater};
 
@@ -197,13 +197,8 @@ fn keeps_first(line: &Line, frames: &[Frame]) -> bool
 
 /// The first frame at which frames are no loop of the line by these orders: it breaks the frame rules, or its order
 /// doesn't lead to the frame after it. The frame after the last one is the first one with next and all carrier numbers
-/// raised by the degree.
-///
-/// None comes exactly where they are such a loop. Then they show a legal timetable whose period is their number.
-///
-/// There are as many orders as frames, at most 20,000, with lists that fit the line. In the first frame next and all ages
-/// are below 2^61.
-pub fn first_break(
+/// raised by the degree. None comes exactly where they are such a loop.
+pub(crate) fn first_break(
     alloc: Global,
     line: &Line,
     frames: &[Frame],
@@ -214,8 +209,7 @@ pub fn first_break(
     requires count { length orders.now ≡ length frames.now }
     requires some { (1 ≤ length frames.now) × (length frames.now ≤ 20000) }
     requires below { IsBelow (2 ^ 61) (scenes frames.now 0) }
-    ensures exact { IfOk result (IsFirstBreak line.now (length frames.now) (scenes frames.now) (commands orders.now)) }
-    ensures legal { IfOk result (λ found. found ≡ None → ShowLegal line.now (length frames.now) (scenes frames.now)) }
+    ensures { IfOk result (IsFirstBreak line.now (length frames.now) (scenes frames.now) (commands orders.now)) }
 {
     if !keeps_first(line, frames) {
         return Ok(Some(0));

@@ -3,9 +3,14 @@
 
 mod checking;
 pub mod laws;
+mod looping;
+#[cfg(test)]
+mod plans;
+mod reading;
 mod rules;
+mod seen;
 #[cfg(test)]
 mod tests;
 
-pub use checking::first_break;
+pub use looping::{Looped, every_loop};
 pub use rules::keeps;
