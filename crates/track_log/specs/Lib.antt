@@ -1,0 +1,5 @@
+pub mod Logs
+pub mod Following
+pub mod Reading
+pub mod Texts
+pub mod Laws
