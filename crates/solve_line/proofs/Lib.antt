@@ -1,3 +1,4 @@
 pub mod Claimed
 pub mod AcceptedLemmas
 pub mod OneLemmas
+pub mod SolvedLemmas

@@ -1,3 +1,4 @@
 pub mod AnswerOf
 pub mod Claims
 pub mod Laws
+pub mod Solved
