@@ -1,0 +1,4 @@
+pub mod Batch
+pub mod Parts
+pub mod Laws
+pub mod OneLemmas

@@ -1,0 +1,11 @@
+//! The list of files that are to be solved together: a name a line.
+#![tactic(auto)]
+
+mod front;
+mod list;
+mod read;
+#[cfg(test)]
+mod tests;
+
+pub use list::FileList;
+pub use read::{ListRead, read_list};
