@@ -1,0 +1,12 @@
+pub mod PairLemmas
+pub mod ChosenLemmas
+pub mod ListLemmas
+pub mod UndecidedLemmas
+pub mod OrderLemmas
+pub mod KeepLemmas
+pub mod SiblingLemmas
+pub mod SolutionLemmas
+pub mod LimitLemmas
+pub mod BoundLemmas
+pub mod CountLemmas
+pub mod TheoremLemmas

@@ -1,0 +1,9 @@
+pub mod Orders
+pub mod Margins
+pub mod Chosen
+pub mod Arcs
+pub mod Systems
+pub mod Limits
+pub mod Found
+pub mod Laws
+pub mod MarginText
