@@ -1,8 +1,11 @@
-//! The program: it makes the shelf of real files and standard output, and runs the top call over its words.
+//! The program: it makes the shelf of real files, standard output and a gate that shows progress, and runs the top
+//! call over its words.
 #![tactic(auto)]
 
 use hoist_cli::{Status, hoist};
-use outside::{FileShelf, OpenGate, StdSink};
+use outside::{FileShelf, StdSink};
+use progress_gate::{ProgressGate, is_wanted};
+use std::io::IsTerminal;
 use std::process::ExitCode;
 use std::{env, io};
 
@@ -18,13 +21,6 @@ fn main(rt: HostRuntime) -> ExitCode {
     };
     let mut shelf = FileShelf::new(&rt);
     let mut sink = StdSink::new(io::writer(&rt));
-    hoist(
-        &rt,
-        alloc,
-        words.as_slice(),
-        &mut shelf,
-        &mut sink,
-        &OpenGate,
-    )
-    .exit_code()
+    let gate = ProgressGate::new(&rt, rt.stderr().is_terminal() && is_wanted(&rt));
+    hoist(&rt, alloc, words.as_slice(), &mut shelf, &mut sink, &gate).exit_code()
 }
