@@ -1,4 +1,6 @@
 pub mod Meanings
 pub mod Narrowing
+pub mod Parts
 pub mod Printed
 pub mod Workers
+pub mod Drilled

@@ -1,12 +1,11 @@
 -- Replies with which one stops, seen as replies of a larger call.
-use Rattle.std.proofs.Common.{◌≡◌, ℕ, ⊎_elim, inl, inr, List, Option, Some, None, Result, Ok, Err, IfSome, subst}
+use Rattle.std.proofs.Common.{◌≡◌, ℕ, ⊎_elim, inl, List, Option, Some, Result, Ok, Err, IfSome, subst}
 use Rattle.hoist_base.specs.LineData.{LineData}
-use Rattle.answer_text.specs.declared.answer.Answer.{Answer}
 use Rattle.hoist_cli.specs.declared.status.Status.{Status}
 use Rattle.hoist_cli.specs.declared.replies.Reply.{Reply}
 use Rattle.hoist_cli.specs.declared.replies.Stop.{Stop}
 use Rattle.hoist_cli.specs.declared.replies.Stop.TheVariants.{Refused, Memory}
-use Rattle.hoist_cli.specs.Reading.{Replies, Reading, AnswerReply}
+use Rattle.hoist_cli.specs.Reading.{Replies}
 use Rattle.timetable.specs.TimetableData.{TimetableData}
 use Rattle.hoist_cli.specs.Reply.{AfterLegal}
 use Rattle.hoist_cli.specs.Stops.{Refuses, Gives, settled_of}

@@ -1,5 +1,5 @@
 -- What a reply that was printed, whole or in part, comes to.
-use Rattle.std.proofs.Common.{◌≡◌, ℕ, ◌≤◌, ◌⊎◌, inr, take, length, List, Option, Some, None, subst}
+use Rattle.std.proofs.Common.{◌≡◌, ℕ, ◌≤◌, ◌⊎◌, inr, take, length, List, Option, subst}
 use Rattle.outside.specs.Sink.{appended}
 use Rattle.hoist_cli.specs.declared.status.Status.{Status}
 use Rattle.hoist_cli.specs.Reading.{Reading}

@@ -1,5 +1,5 @@
 -- However many workers there are, a file and a budget give one text.
-use Rattle.std.proofs.Common.{◌≡◌, ◌≢◌, ℕ, ◌<◌, ◌≤◌, ◌⊎◌, ⊎_elim, inl, inr, List, [], ◌∷◌, ◌++◌, length, codes, Option, Some, None, refl, ap, subst, sym, ◌∙◌, arith, string_bytes, get_or}
+use Rattle.std.proofs.Common.{◌≡◌, ◌≢◌, ℕ, ◌<◌, ◌≤◌, ◌⊎◌, ⊎_elim, inl, inr, List, [], ◌∷◌, ◌++◌, length, codes, Option, Some, None, ap, subst, sym, ◌∙◌, arith, string_bytes, get_or}
 use Rattle.hoist_base.specs.LineData.{LineData}
 use Rattle.hoist_base.specs.Valid.{IsLine}
 use Rattle.line_text.specs.declared.why.Why.{Why}
@@ -12,15 +12,16 @@ use Rattle.answer_text.specs.declared.answer.Answer.{Answer}
 use Rattle.answer_text.specs.Answers.{answer_text}
 use Rattle.solve_line.proofs.OneLemmas.{solution_is_one}
 use Rattle.hoist_words.specs.declared.requests.Request.{Request}
-use Rattle.hoist_words.specs.declared.requests.Request.TheVariants.{Solve, Check, Run, Chart, Drill}
+use Rattle.hoist_words.specs.declared.requests.Request.TheVariants.{Solve, Check, Run, Chart, Drill, Sweep, Margin, Follow, Batch}
 use Rattle.hoist_words.specs.Table.{splits}
-use Rattle.hoist_words.specs.Request.{AsksSolve, IsNumber, IsRequestOf, no_numbers}
+use Rattle.hoist_words.specs.Request.{AsksSolve, IsNumber, IsRequestOf}
 use Rattle.hoist_words.proofs.RequestLemmas.{one_asked}
 use Rattle.hoist_cli.specs.declared.status.Status.{Status}
 use Rattle.hoist_cli.specs.declared.status.Status.TheVariants as statuses
 use Rattle.hoist_cli.specs.Laws.{WorkersDoNotMatter}
-use Rattle.hoist_cli.specs.Reading.{Reading, reading, line_limit, IsLong, IsLineOf, IsNoLine, IsLineIn}
-use Rattle.hoist_cli.specs.Reply.{SolveReply, IsSolved, status_of, ReplyTo, IsReply}
+use Rattle.hoist_cli.specs.Reading.{Reading, reading, line_limit, IsLineOf}
+use Rattle.hoist_cli.specs.Reply.{ReplyTo}
+use Rattle.hoist_cli.specs.Solved.{SolveReply, IsSolved, status_of}
 
 -- ---- the request
 
@@ -42,6 +43,10 @@ replied r words file budget workers status text (Some (Check f a)) asks has is =
 replied r words file budget workers status text (Some (Run f a n)) asks has is = let (same, _, _) = one_asked _ _ _ _ _ _ _ has asks in absurd cc
 replied r words file budget workers status text (Some (Chart f a)) asks has is = let (same, _, _) = one_asked _ _ _ _ _ _ _ has asks in absurd cc
 replied r words file budget workers status text (Some (Drill seed)) asks has is = let (same, _, _) = one_asked _ _ _ _ _ _ _ has asks in absurd cc
+replied r words file budget workers status text (Some (Sweep f u b w)) asks has is = let (same, _, _) = one_asked _ _ _ _ _ _ _ has asks in absurd cc
+replied r words file budget workers status text (Some (Margin f a)) asks has is = let (same, _, _) = one_asked _ _ _ _ _ _ _ has asks in absurd cc
+replied r words file budget workers status text (Some (Follow f a)) asks has is = let (same, _, _) = one_asked _ _ _ _ _ _ _ has asks in absurd cc
+replied r words file budget workers status text (Some (Batch f b w)) asks has is = let (same, _, _) = one_asked _ _ _ _ _ _ _ has asks in absurd cc
 
 -- ---- one reply to one file
 

@@ -4,4 +4,8 @@ pub mod Laws
 pub mod Meaning
 pub mod Reading
 pub mod Reply
+pub mod Solved
+pub mod Swept
+pub mod Followed
+pub mod Batched
 pub mod Stops

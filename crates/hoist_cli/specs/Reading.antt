@@ -32,10 +32,11 @@ pub record Reading : Type 0 where
 abbrev pub reading : Option Files → ℕ → ℕ → Reading
 reading files before after = record { files = files; before = before; after = after }
 
--- the most bytes that a line file and an answer file have
+-- the most bytes that a line file and a list have
 abbrev pub line_limit : ℕ
 line_limit = 65536
 
+-- the most bytes that an answer file and a log have
 abbrev pub answer_limit : ℕ
 answer_limit = 2 ^ 30
 
@@ -53,6 +54,11 @@ abbrev pub IsFileRefusal : Reading → List ℕ → ℕ → Replies
 IsFileRefusal r name limit status text =
     (Rose r.before r.after × IsLineOf statuses.Read (codes "read fault: ") name status text)
     ⊎ (IsLong r.files name limit × IsLineOf statuses.Long (codes "too long: ") name status text)
+
+-- the reply where the bytes of the file of this name are asked for: a refusal, or what they call for
+abbrev pub AfterFile : Reading → List ℕ → ℕ → (List ℕ → Replies) → Replies
+AfterFile r name limit Next status text =
+    IsFileRefusal r name limit status text ⊎ ((bytes : List ℕ) × IsFile r.files name limit bytes × Next bytes status text)
 
 -- ---- line files
 

@@ -1,10 +1,10 @@
-// The commands `run` and `chart`, which play and draw the timetable of an answer.
+// The commands `run`, `chart` and `margin`, which play and draw the timetable of an answer and narrow its windows.
 ghost use Rattle.std.specs.Prelude.{◌≡◌, ◌≤◌, Some, codes, MatchOption, ⊤, IfOk, IfErr};
 ghost use Rattle.line_model.specs.Legal.{IsLegal};
 ghost use Rattle.timetable.specs.TimetableData.{FitsLine, IsTimetableOf, timetable_of};
 ghost use Rattle.answer_text.specs.Answers.{HasSmallPath};
 ghost use Rattle.hoist_cli.specs.Reading.{reading, IsLineOf};
-ghost use Rattle.hoist_cli.specs.Reply.{AfterLegal, TimetableReply, run_of, chart_of};
+ghost use Rattle.hoist_cli.specs.Reply.{AfterLegal, TimetableReply, IsRunOf, IsChartOf, IsMarginOf};
 ghost use Rattle.hoist_cli.specs.Stops.{Gives, Refuses};
 
 use crate::files::line_and_answer;
@@ -17,6 +17,7 @@ use outside::Shelf;
 use run_text::run_text;
 use std::alloc::{AllocError, Global};
 use timetable::{Timetable, first_fault};
+use window_margin::{margin, margin_text};
 
 /// The stop where the timetable of an answer is rejected for this.
 fn rejected(alloc: Global, why: &[u8]) -> Stop
@@ -53,7 +54,7 @@ fn legal_timetable(
 fn drawn(alloc: Global, line: &Line, timetable: &Timetable) -> Result<Vec<u8>, AllocError>
     requires fits { FitsLine line.now timetable.now }
     requires legal { IsLegal line.now (timetable_of timetable.now) }
-    ensures { IfOk result (λ text. text.items ≡ chart_of line.now timetable.now) }
+    ensures { IfOk result (λ text. IsChartOf line.now timetable.now text.items) }
 {
     let mut text = chart(alloc, line, timetable)?;
     let table = dwell_table(alloc, line, timetable)?;
@@ -70,7 +71,7 @@ pub(crate) fn run_file<F: Shelf>(
     shelf: &mut F,
 ) -> Result<Reply, Stop>
     requires { (1 ≤ carriers) × (carriers ≤ 1000) }
-    ensures { Gives (TimetableReply (reading (F.files shelf.old) (F.faults shelf.old) (F.faults shelf.new)) file.now answer.now (run_of carriers)) result }
+    ensures { Gives (TimetableReply (reading (F.files shelf.old) (F.faults shelf.old) (F.faults shelf.new)) file.now answer.now (IsRunOf carriers)) result }
 {
     let (line, answer) = line_and_answer(alloc, file, answer, shelf)?;
     let timetable = legal_timetable(alloc, &line, answer.timetable)?;
@@ -88,11 +89,39 @@ pub(crate) fn chart_file<F: Shelf>(
     answer: &str,
     shelf: &mut F,
 ) -> Result<Reply, Stop>
-    ensures { Gives (TimetableReply (reading (F.files shelf.old) (F.faults shelf.old) (F.faults shelf.new)) file.now answer.now chart_of) result }
+    ensures { Gives (TimetableReply (reading (F.files shelf.old) (F.faults shelf.old) (F.faults shelf.new)) file.now answer.now IsChartOf) result }
 {
     let (line, answer) = line_and_answer(alloc, file, answer, shelf)?;
     let timetable = legal_timetable(alloc, &line, answer.timetable)?;
     let text = drawn(alloc, &line, &timetable)?;
+    Ok(Reply {
+        status: Status::Done,
+        text,
+    })
+}
+
+/// The text of the margin of a legal timetable's windows.
+fn margined(alloc: Global, line: &Line, timetable: &Timetable) -> Result<Vec<u8>, AllocError>
+    requires fits { FitsLine line.now timetable.now }
+    requires legal { IsLegal line.now (timetable_of timetable.now) }
+    ensures { IfOk result (λ text. IsMarginOf line.now timetable.now text.items) }
+{
+    let read = margin(alloc, line, timetable)?;
+    margin_text(alloc, &read)
+}
+
+/// The reply to a request for the margin of the windows of the timetable of an answer.
+pub(crate) fn margin_file<F: Shelf>(
+    alloc: Global,
+    file: &str,
+    answer: &str,
+    shelf: &mut F,
+) -> Result<Reply, Stop>
+    ensures { Gives (TimetableReply (reading (F.files shelf.old) (F.faults shelf.old) (F.faults shelf.new)) file.now answer.now IsMarginOf) result }
+{
+    let (line, answer) = line_and_answer(alloc, file, answer, shelf)?;
+    let timetable = legal_timetable(alloc, &line, answer.timetable)?;
+    let text = margined(alloc, &line, &timetable)?;
     Ok(Reply {
         status: Status::Done,
         text,

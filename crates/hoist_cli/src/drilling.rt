@@ -1,16 +1,21 @@
 // The command `drill`.
-ghost use Rattle.std.specs.Prelude.{◌≡◌, ◌++◌, MatchOption, ⊤, IfSome, OnOk, IfOk};
+ghost use Rattle.std.specs.Prelude.{◌≡◌, ◌≤◌, ◌++◌, MatchOption, ⊤, IfSome, OnOk, IfOk};
 ghost use Rattle.line_model.specs.Legal.{IsLegal};
 ghost use Rattle.timetable.specs.TimetableData.{IsTimetableOf, timetable_of};
+ghost use Rattle.hoist_base.specs.Valid.{IsLine};
 ghost use Rattle.answer_text.specs.Answers.{HasSmallPath, IsWritable};
+ghost use Rattle.answer_read.specs.Answers.{IsAnswer};
+ghost use Rattle.answer_read.specs.Same.{SayTheSame};
 ghost use Rattle.cert_checker.specs.declared.reason.Reason.{Reason};
-ghost use Rattle.cert_checker.specs.Reasons.{HasReason};
+ghost use Rattle.cert_checker.specs.Reasons.{HasReason, split_count};
+ghost use Rattle.read_back.specs.Laws.{many_splits};
 ghost use Rattle.line_gen.specs.Generated.{generated};
 ghost use Rattle.hoist_cli.specs.Drill as drills;
 
 use crate::replies::Reply;
 use crate::status::Status;
-use answer_text::Answer;
+use answer_read::{AnswerRead, read_answer};
+use answer_text::{Answer, write_answer};
 use cert_checker::{Checked, check};
 use hoist_base::Line;
 use line_gen::line_of;
@@ -34,13 +39,29 @@ const CARRIERS: u64 = 5;
 
 /// The line of a seed, as it is read from its line file.
 fn line_read(alloc: Global, seed: u32) -> Result<Line, AllocError>
-    ensures { IfOk result (λ line. line ≡ generated seed) }
+    ensures made { IfOk result (λ line. line ≡ generated seed) }
+    ensures valid { IfOk result (λ line. IsLine line) }
 {
     let line = line_of(alloc, seed)?;
     let text = write_line(alloc, &line)?;
     match read_line(alloc, text.as_slice())? {
         LineRead::Ready(line) => Ok(line),
         LineRead::Refused(_) => unreachable!(),
+    }
+}
+
+/// The answer as it is read back from its text.
+fn written_and_read(alloc: Global, line: &Line, answer: &Answer) -> Result<Answer, AllocError>
+    requires valid { IsLine line.now }
+    requires answer { IsAnswer line.now answer.now }
+    requires few { split_count answer.now.tree ≤ many_splits }
+    ensures answer { IfOk result (λ back. IsAnswer line.now back) }
+    ensures same { IfOk result (λ back. SayTheSame answer.now back) }
+{
+    let text = write_answer(alloc, line, answer)?;
+    match read_answer(alloc, line, text.as_slice())? {
+        AnswerRead::Ready(back) => Ok(back),
+        AnswerRead::Broken { .. } => unreachable!(),
     }
 }
 
@@ -130,7 +151,8 @@ pub(crate) fn drill<R: Threads + Sync, G: Gate>(
     ensures { IfOk result (λ reply. drills.DrillReply seed reply.status reply.text.items) }
 {
     let line = line_read(alloc, seed)?;
-    let answer = solve(rt, alloc, &line, BUDGET, WORKERS, gate)?;
+    let solved = solve(rt, alloc, &line, BUDGET, WORKERS, gate)?;
+    let answer = written_and_read(alloc, &line, &solved)?;
     accept(rt, alloc, &line, &answer)?;
     let text = told(alloc, seed, &line, &answer)?;
     Ok(Reply {

@@ -1,7 +1,7 @@
 // The files that a request names.
-ghost use Rattle.std.specs.Prelude.{◌≡◌, ◌≤◌, IfOk, IfErr};
+ghost use Rattle.std.specs.Prelude.{◌≡◌, ◌≤◌, IfOk, IfErr, decimal};
 ghost use Rattle.outside.specs.Count.{Rose};
-ghost use Rattle.hoist_cli.specs.Reading.{reading, IsFile, IsFileRefusal, IsLineIn, IsLineStop, IsAnswerIn, IsAnswerStop, AnswerReply};
+ghost use Rattle.hoist_cli.specs.Reading.{reading, IsFile, IsFileRefusal, IsLineOf, IsLineIn, IsLineStop, IsAnswerIn, IsAnswerStop, AnswerReply};
 ghost use Rattle.hoist_cli.specs.Stops.{Refuses};
 
 use crate::replies::{Stop, refusal};
@@ -14,14 +14,19 @@ use line_text::{LineRead, read_line, refusal_text};
 use outside::{Shelf, ShelfFault};
 use std::alloc::Global;
 
-/// The most bytes that a line file has.
-const LINE_LIMIT: u64 = 65_536;
+/// The most bytes that a line file and a list have.
+pub(crate) const LINE_LIMIT: u64 = 65_536;
 
-/// The most bytes that an answer file has.
-const ANSWER_LIMIT: u64 = 1 << 30;
+/// The most bytes that an answer file and a log have.
+pub(crate) const ANSWER_LIMIT: u64 = 1 << 30;
 
 /// The bytes of the file of this name, where it has at most `limit`.
-fn fetch<F: Shelf>(alloc: Global, name: &str, limit: u64, shelf: &mut F) -> Result<Vec<u8>, Stop>
+pub(crate) fn fetch<F: Shelf>(
+    alloc: Global,
+    name: &str,
+    limit: u64,
+    shelf: &mut F,
+) -> Result<Vec<u8>, Stop>
     ensures file { IfOk result (λ bytes. IsFile (F.files shelf.old) name.now limit bytes.items) }
     ensures refused { IfErr result (Refuses (IsFileRefusal (reading (F.files shelf.old) (F.faults shelf.old) (F.faults shelf.new)) name.now limit)) }
     ensures same { F.files shelf.new ≡ F.files shelf.old }
@@ -62,6 +67,19 @@ pub(crate) fn line_in<F: Shelf>(alloc: Global, file: &str, shelf: &mut F) -> Res
     }
 }
 
+/// The stop with a word and the byte at which a file breaks.
+pub(crate) fn broken_at(alloc: Global, word: &[u8], offset: u64) -> Stop
+    ensures { Refuses (IsLineOf Status.Broken word.now (decimal offset)) result }
+{
+    let mut buffer = Buffer::new();
+    refusal(
+        alloc,
+        Status::Broken,
+        word,
+        buffer.format(offset).as_bytes(),
+    )
+}
+
 /// The answer to a line whose text is the file of this name.
 fn answer_in<F: Shelf>(
     alloc: Global,
@@ -76,13 +94,7 @@ fn answer_in<F: Shelf>(
     match read_answer(alloc, line, bytes.as_slice())? {
         AnswerRead::Ready(answer) => Ok(answer),
         AnswerRead::Broken { offset } => {
-            let mut buffer = Buffer::new();
-            Err(refusal(
-                alloc,
-                Status::Broken,
-                b"answer broken at byte ",
-                buffer.format(offset).as_bytes(),
-            ))
+            Err(broken_at(alloc, b"answer broken at byte ", offset))
         }
     }
 }

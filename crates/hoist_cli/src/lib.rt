@@ -1,14 +1,17 @@
 //! All that the program does: it reads its words and the files that they name, and prints the answer or what is wrong.
 #![tactic(auto)]
 
+mod batching;
 mod checking;
 mod drawing;
 mod drilling;
 mod files;
+mod following;
 pub mod laws;
 mod replies;
 mod solving;
 mod status;
+mod sweeping;
 mod top;
 
 pub use status::Status;

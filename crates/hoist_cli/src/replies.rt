@@ -44,6 +44,10 @@ pub(crate) fn usage_reply(alloc: Global) -> Result<Reply, AllocError>
     text.extend_from_slice(b"       hoist run FILE ANSWER [--carriers N]\n")?;
     text.extend_from_slice(b"       hoist chart FILE ANSWER\n")?;
     text.extend_from_slice(b"       hoist drill SEED\n")?;
+    text.extend_from_slice(b"       hoist sweep FILE [--upto N] [--budget N] [--workers N]\n")?;
+    text.extend_from_slice(b"       hoist margin FILE ANSWER\n")?;
+    text.extend_from_slice(b"       hoist follow FILE LOG\n")?;
+    text.extend_from_slice(b"       hoist batch LIST [--budget N] [--workers N]\n")?;
     Ok(Reply {
         status: Status::Words,
         text,

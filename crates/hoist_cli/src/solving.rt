@@ -1,7 +1,7 @@
 // The command `solve`.
 ghost use Rattle.std.specs.Prelude.{◌≡◌, ◌≤◌, IfOk};
 ghost use Rattle.hoist_cli.specs.Reading.{reading};
-ghost use Rattle.hoist_cli.specs.Reply.{IsSolved, SolveReply, status_of};
+ghost use Rattle.hoist_cli.specs.Solved.{IsSolved, SolveReply, status_of};
 ghost use Rattle.hoist_cli.specs.Stops.{Gives};
 
 use crate::files::line_in;

@@ -8,12 +8,15 @@ ghost use Rattle.hoist_cli.specs.Reading.{reading};
 ghost use Rattle.hoist_cli.specs.Reply.{IsReply};
 ghost use Rattle.hoist_cli.specs.Stops.{Gives};
 
+use crate::batching::batch_file;
 use crate::checking::check_file;
-use crate::drawing::{chart_file, run_file};
+use crate::drawing::{chart_file, margin_file, run_file};
 use crate::drilling::drill;
+use crate::following::follow_file;
 use crate::replies::{Reply, Stop, settled, usage_reply};
 use crate::solving::solve_file;
 use crate::status::Status;
+use crate::sweeping::{Scope, sweep_file};
 use hoist_words::{Request, read_words};
 use outside::{Gate, Shelf, Sink, WriteEnd, write_all};
 use std::alloc::Global;
@@ -54,6 +57,28 @@ fn reply_to<R: Threads + Sync, F: Shelf, G: Gate>(
             let reply = drill(rt, alloc, seed, gate)?;
             Ok(reply)
         }
+        Request::Sweep {
+            file,
+            upto,
+            budget,
+            workers,
+        } => {
+            let scope = Scope {
+                upto,
+                budget,
+                workers,
+            };
+            sweep_file(rt, alloc, file.as_str(), scope, shelf, gate)
+        }
+        Request::Margin { file, answer } => {
+            margin_file(alloc, file.as_str(), answer.as_str(), shelf)
+        }
+        Request::Follow { file, log } => follow_file(alloc, file.as_str(), log.as_str(), shelf),
+        Request::Batch {
+            list,
+            budget,
+            workers,
+        } => batch_file(rt, alloc, list.as_str(), budget, workers, shelf, gate),
     }
 }
 
@@ -66,10 +91,18 @@ fn reply_to<R: Threads + Sync, F: Shelf, G: Gate>(
 ///   greatest; with `Unfinished` the budget was spent, and none has a period below the printed bound.
 /// - `check` with the status `Done`: the answer's timetable, where it has one, is legal, its tree proves its bound, and so no
 ///   legal timetable of the line has a smaller period. With `Negative` the first reason to reject it is printed.
-/// - `run` and `chart` with the status `Done`: the answer's timetable is legal, and the log of its run, or its chart and then
-///   its dwell table, is printed. With `Negative` the answer has no timetable, or an illegal one, whose first fault is
+/// - `run`, `chart` and `margin` with the status `Done`: the answer's timetable is legal, and the log of its run, or its chart
+///   and then its dwell table, or the margin of its windows, is printed. With `Negative` the answer has no timetable, or an illegal one, whose first fault is
 ///   printed. The tree of the answer isn't looked at.
 /// - `drill`, always with the status `Done`: the printed text is that of the line of the seed and of its answer.
+/// - `sweep`: the printed text is that of the answers at each degree, and no legal timetable of a degree has a period below
+///   the bound of its row. With `Done` no row is open, and no legal timetable of these degrees, of a period that the line
+///   allows, has less period for each carrier than the best; with `Negative` no row is open and none has a timetable;
+///   with `Unfinished` a row is open.
+/// - `follow` with the status `Done`: the log keeps every rule of the machine up to its last tick. With `Negative` the first
+///   tick at which it departs from them is printed, and how.
+/// - `batch` with the status `Done`: for each file of the list, in its order, what is printed is what `solve` prints for that
+///   file and budget, with its status.
 ///
 /// Want of memory may be answered instead of anything else.
 pub fn hoist<R: Threads + Sync, F: Shelf, K: Sink, G: Gate>(

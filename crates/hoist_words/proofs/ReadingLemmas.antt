@@ -3,12 +3,12 @@ use Rattle.std.proofs.Common.{◌≡◌, ◌==◌, ℕ, zero, suc, ◌<◌, ◌�
 use Rattle.std.proofs.Common.{if◌then◌else◌, inl, inr, refl, sym, ap, subst, arith, Option, Some, None, Bor, nat_eq, slice_index_or, true≢false}
 use Rattle.std.proofs.Common.{ne_eqb, is_some, ◌⊎◌}
 use Rattle.std.specs.Prelude.{not}
-use Rattle.hoist_words.specs.Request.{Item, File, Given, Says, AreKnown, IsFileName, option_names, values_of, is_budget, is_workers, is_carriers}
+use Rattle.hoist_words.specs.Request.{Item, File, Given, Says, AreKnown, IsFileName, option_names, values_of, is_budget, is_workers, is_carriers, is_upto}
 use Rattle.hoist_words.specs.Forms.{name_of, opening, joined, IsForm}
 use Rattle.hoist_words.specs.Found.{AreOptions, AreFew, IsFound, IsOptionFit, IsPlainFor, IsWith, listed}
 use Rattle.hoist_words.specs.declared.table.Limits.{Limits}
 use Rattle.hoist_words.specs.declared.forms.Name.{Name}
-use Rattle.hoist_words.specs.declared.forms.Name.TheVariants.{Budget, Workers, Carriers}
+use Rattle.hoist_words.specs.declared.forms.Name.TheVariants.{Budget, Workers, Carriers, Upto}
 use Rattle.hoist_words.specs.declared.forms.Form.TheVariants.{Other}
 use Rattle.hoist_words.specs.declared.found.Found.{Found}
 
@@ -18,36 +18,42 @@ named : (name : List ℕ) → Contains option_names name → (m : Name) × (name
 named name (zero, lt, e) = (Budget, sym e)
 named name (suc zero, lt, e) = (Workers, sym e)
 named name (suc (suc zero), lt, e) = (Carriers, sym e)
-named name (suc (suc (suc k)), lt, e) = absurd (omega (arith, lt))
+named name (suc (suc (suc zero)), lt, e) = (Upto, sym e)
+named name (suc (suc (suc (suc k))), lt, e) = absurd (omega (arith, lt))
 
 is_named : (m : Name) → Contains option_names (name_of m)
 is_named Budget = (0, omega arith, refl)
 is_named Workers = (1, omega arith, refl)
 is_named Carriers = (2, omega arith, refl)
+is_named Upto = (3, omega arith, refl)
 
 -- the name behind two dashes, by its first byte
 abbrev name_in_word : List ℕ → Name
-name_in_word w = if get_or w 2 0 == 98 then Budget else if get_or w 2 0 == 119 then Workers else Carriers
+name_in_word w = if get_or w 2 0 == 98 then Budget else if get_or w 2 0 == 119 then Workers else if get_or w 2 0 == 99 then Carriers else Upto
 
 in_opening : (m : Name) → name_in_word (opening (name_of m)) ≡ m
 in_opening Budget = refl
 in_opening Workers = refl
 in_opening Carriers = refl
+in_opening Upto = refl
 
 in_joined : (m : Name) (v : List ℕ) → name_in_word (joined (name_of m) v) ≡ m
 in_joined Budget v = refl
 in_joined Workers v = refl
 in_joined Carriers v = refl
+in_joined Upto v = refl
 
 longer : (m : Name) (v : List ℕ) → length (opening (name_of m)) < length (joined (name_of m) v)
 longer Budget v = omega arith
 longer Workers v = omega arith
 longer Carriers v = omega arith
+longer Upto v = omega arith
 
 value_behind : (m : Name) (v : List ℕ) → drop (suc (length (opening (name_of m)))) (joined (name_of m) v) ≡ v
 value_behind Budget v = refl
 value_behind Workers v = refl
 value_behind Carriers v = refl
+value_behind Upto v = refl
 
 joined_not_opening : (m n : Name) (v : List ℕ) → joined (name_of m) v ≡ opening (name_of n) → ⊥
 joined_not_opening m n v e =
@@ -218,12 +224,13 @@ shorter true v vs = omega arith
 shorter false v vs = omega arith
 
 few_tail : (item : Item) (items : List Item) → AreFew (item ∷ items) → AreFew items
-few_tail (File name) items (f, b, w, c) = (omega (arith, f), b, w, c)
-few_tail (Given name value) items (f, b, w, c) = (
+few_tail (File name) items (f, b, w, c, u) = (omega (arith, f), b, w, c, u)
+few_tail (Given name value) items (f, b, w, c, u) = (
   f,
   omega (arith, b, shorter (is_budget name) value (values_of is_budget items)),
   omega (arith, w, shorter (is_workers name) value (values_of is_workers items)),
   omega (arith, c, shorter (is_carriers name) value (values_of is_carriers items)),
+  omega (arith, u, shorter (is_upto name) value (values_of is_upto items)),
 )
 
 -- what was found behind an item

@@ -11,14 +11,14 @@ use Rattle.clap.specs.Words.{first_value, rows_of, first_of}
 use Rattle.clap.specs.declared.parser.matches.Found.{Found as Matched}
 use Rattle.clap.proofs.WalkLemmas.{first_value-rows}
 use Rattle.hoist_words.specs.Request.{Item, File, Given, Says, IsFileName, IsValue, IsNumber, IsSeed, files_of, files_under, values_of, is_budget}
-use Rattle.hoist_words.specs.Request.{is_workers, is_carriers, words_of}
+use Rattle.hoist_words.specs.Request.{is_workers, is_carriers, is_upto, words_of}
 use Rattle.hoist_words.specs.Request.{AsksFor, AskNothing, IsRequestOf, command_in, files_in, numbers_in}
 use Rattle.hoist_words.specs.Table.{row_of, name_of_command}
 use Rattle.hoist_words.specs.Forms.{name_of}
 use Rattle.hoist_words.specs.Found.{AreOptions, AreFew, IsFound, Fits, FitsRow, IsFit, IsPlainFor, listed}
 use Rattle.hoist_words.specs.Commands.{AreFiles, AreFilesOf, AreNumbers, IsReadOf, values}
 use Rattle.hoist_words.specs.declared.forms.Name.{Name}
-use Rattle.hoist_words.specs.declared.forms.Name.TheVariants.{Budget, Workers, Carriers}
+use Rattle.hoist_words.specs.declared.forms.Name.TheVariants.{Budget, Workers, Carriers, Upto}
 use Rattle.hoist_words.specs.declared.found.Found.{Found}
 use Rattle.hoist_words.specs.declared.table.CommandName.{CommandName}
 use Rattle.hoist_words.specs.declared.table.CommandName.TheVariants as command
@@ -62,7 +62,9 @@ value_same (v ∷ w ∷ vs) default least most m n small h g = absurd h
 
 -- how often options are given
 abbrev given_count : List Item → ℕ
-given_count items = length (values_of is_budget items) + (length (values_of is_workers items) + length (values_of is_carriers items))
+given_count items =
+    length (values_of is_budget items)
+    + (length (values_of is_workers items) + (length (values_of is_carriers items) + length (values_of is_upto items)))
 
 one_more : (m : Name) (name value : List ℕ) (items : List Item) → name ≡ name_of m → given_count (Given name value ∷ items) ≡ suc (given_count items)
 one_more m name value items is = subst (λ x. given_count (Given x value ∷ items) ≡ suc (given_count items)) (sym is) (at m)
@@ -71,6 +73,7 @@ one_more m name value items is = subst (λ x. given_count (Given x value ∷ ite
     at Budget = omega arith
     at Workers = omega arith
     at Carriers = omega arith
+    at Upto = omega arith
 
 few_words : (items : List Item) (words : List (List ℕ)) → Says items words → AreOptions items
     → length words ≤ length (files_of items) + 2 * given_count items
@@ -110,49 +113,65 @@ number_same : (limits : Option Limits) (vs : List (List ℕ)) (m n : ℕ) → Ar
 number_same None vs m n small h g = h.1 ∙ sym g.1
 number_same (Some l) vs m n small h g = value_same vs l.default l.least l.most m n small h g
 
-rows_small : (c : CommandName) → AreSmall (row_of c).budget × AreSmall (row_of c).workers × AreSmall (row_of c).carriers
-rows_small command.Solve = (omega arith, omega arith, tt)
-rows_small command.Check = (tt, tt, tt)
-rows_small command.Run = (tt, tt, omega arith)
-rows_small command.Chart = (tt, tt, tt)
-rows_small command.Drill = (tt, tt, tt)
+rows_small : (c : CommandName)
+    → AreSmall (row_of c).budget × AreSmall (row_of c).workers × AreSmall (row_of c).carriers × AreSmall (row_of c).upto
+rows_small command.Solve = (omega arith, omega arith, tt, tt)
+rows_small command.Check = (tt, tt, tt, tt)
+rows_small command.Run = (tt, tt, omega arith, tt)
+rows_small command.Chart = (tt, tt, tt, tt)
+rows_small command.Drill = (tt, tt, tt, tt)
+rows_small command.Sweep = (omega arith, omega arith, tt, omega arith)
+rows_small command.Margin = (tt, tt, tt, tt)
+rows_small command.Follow = (tt, tt, tt, tt)
+rows_small command.Batch = (omega arith, omega arith, tt, tt)
 
 small : (c : CommandName) (m : Name) → AreSmall (limits_of c m)
 small c Budget = (rows_small c).0
 small c Workers = (rows_small c).1
 small c Carriers = (rows_small c).2
+small c Upto = (rows_small c).3
 
 -- the words of a command have at most seven behind it
-few_in_row : (c : CommandName) → (row_of c).files + 2 * (room_in (row_of c).budget + (room_in (row_of c).workers + room_in (row_of c).carriers)) ≤ 7
+few_in_row : (c : CommandName)
+    → (row_of c).files
+    + 2 * (room_in (row_of c).budget + (room_in (row_of c).workers + (room_in (row_of c).carriers + room_in (row_of c).upto)))
+    ≤ 7
 few_in_row command.Solve = omega arith
 few_in_row command.Check = omega arith
 few_in_row command.Run = omega arith
 few_in_row command.Chart = omega arith
 few_in_row command.Drill = omega arith
+few_in_row command.Sweep = omega arith
+few_in_row command.Margin = omega arith
+few_in_row command.Follow = omega arith
+few_in_row command.Batch = omega arith
 
 few_options : (c : CommandName) (words files : List (List ℕ)) (numbers : Numbers) (a : AsksFor c words files numbers)
     → (length (values_of is_budget a.items) ≤ room_in (row_of c).budget) × (length (values_of is_workers a.items) ≤ room_in (row_of c).workers)
     × (length (values_of is_carriers a.items) ≤ room_in (row_of c).carriers)
+    × (length (values_of is_upto a.items) ≤ room_in (row_of c).upto)
 few_options c words files numbers a = (
   few_values (row_of c).budget (values_of is_budget a.items) numbers.budget a.budget_is,
   few_values (row_of c).workers (values_of is_workers a.items) numbers.workers a.workers_are,
   few_values (row_of c).carriers (values_of is_carriers a.items) numbers.carriers a.carriers_are,
+  few_values (row_of c).upto (values_of is_upto a.items) numbers.upto a.upto_is,
 )
 
 few_asked : (c : CommandName) (words files : List (List ℕ)) (numbers : Numbers) (a : AsksFor c words files numbers) → AreFew a.items
 few_asked c words files numbers a =
-    let (b, w, k) = few_options c words files numbers a in (
+    let (b, w, k, u) = few_options c words files numbers a in (
       omega (arith, a.count, at_most_two c),
       omega (arith, b, once_in (row_of c).budget),
       omega (arith, w, once_in (row_of c).workers),
       omega (arith, k, once_in (row_of c).carriers),
+      omega (arith, u, once_in (row_of c).upto),
     )
 
 -- more words than a request has
 pub nothing_long : (words : List (List ℕ)) → 7 < length (drop 2 words) → AskNothing words
 nothing_long words long c files numbers a =
-    let (b, w, k) = few_options c words files numbers a in
-    omega (arith, long, a.count, few_in_row c, b, w, k, few_words a.items (drop 2 words) a.says a.known)
+    let (b, w, k, u) = few_options c words files numbers a in
+    omega (arith, long, a.count, few_in_row c, b, w, k, u, few_words a.items (drop 2 words) a.says a.known)
 
 pub nothing_found : (words : List (List ℕ)) → IsFound (drop 2 words) None → AskNothing words
 nothing_found words none c files numbers a = none a.items a.says a.known (few_asked c words files numbers a)
@@ -171,7 +190,11 @@ command_named text =
     else if bytes_eq text (codes "check") then command.Check
     else if bytes_eq text (codes "run") then command.Run
     else if bytes_eq text (codes "chart") then command.Chart
-    else command.Drill
+    else if bytes_eq text (codes "drill") then command.Drill
+    else if bytes_eq text (codes "sweep") then command.Sweep
+    else if bytes_eq text (codes "margin") then command.Margin
+    else if bytes_eq text (codes "follow") then command.Follow
+    else command.Batch
 
 command_is : (c : CommandName) → command_named (name_of_command c) ≡ c
 command_is command.Solve = refl
@@ -179,6 +202,10 @@ command_is command.Check = refl
 command_is command.Run = refl
 command_is command.Chart = refl
 command_is command.Drill = refl
+command_is command.Sweep = refl
+command_is command.Margin = refl
+command_is command.Follow = refl
+command_is command.Batch = refl
 
 pub same_command : (c d : CommandName) → name_of_command c ≡ name_of_command d → c ≡ d
 same_command c d e = sym (command_is c) ∙ ap command_named e ∙ command_is d
@@ -196,6 +223,7 @@ abbrev number_at : Name → Numbers → ℕ
 number_at Budget n = n.budget
 number_at Workers n = n.workers
 number_at Carriers n = n.carriers
+number_at Upto n = n.upto
 
 -- the numbers that are asked for are those of the items that were found
 
@@ -204,6 +232,7 @@ number_asked : (m : Name) (c : CommandName) (words files : List (List ℕ)) (num
 number_asked Budget c words files numbers a = a.budget_is
 number_asked Workers c words files numbers a = a.workers_are
 number_asked Carriers c words files numbers a = a.carriers_are
+number_asked Upto c words files numbers a = a.upto_is
 
 number_found : (m : Name) (c d : CommandName) (words files : List (List ℕ)) (numbers : Numbers) (items : List Item) (a : AsksFor d words files numbers)
     → (d ≡ c) × (a.items ≡ items) → IsNumber (limits_of c m) (values_for m items) (number_at m numbers)
@@ -236,11 +265,13 @@ abbrev listed_at : Name → Found → List (List ℕ)
 listed_at Budget found = listed found.budget
 listed_at Workers found = listed found.workers
 listed_at Carriers found = listed found.carriers
+listed_at Upto found = listed found.upto
 
 fits_at : (m : Name) (items : List Item) (found : Found) → Fits items found → values_for m items ≡ listed_at m found
 fits_at Budget items found fits = fits.budget
 fits_at Workers items found fits = fits.workers
 fits_at Carriers items found fits = fits.carriers
+fits_at Upto items found fits = fits.upto
 
 pub nothing_fits : (c : CommandName) (words : List (List ℕ)) (found : Found) → slice_get words 1 ≡ Some (name_of_command c)
     → IsFound (drop 2 words) (Some found) → IsFit (row_of c) found false → AskNothing words
@@ -251,6 +282,7 @@ nothing_fits c words found named (items, says, known, fits) unfit d files number
       budget = plain Budget (same, are);
       workers = plain Workers (same, are);
       carriers = plain Carriers (same, are);
+      upto = plain Upto (same, are);
     })
   where
     plain : (m : Name) → (d ≡ c) × (a.items ≡ items) → IsPlainFor (limits_of c m) (listed_at m found)
@@ -268,6 +300,7 @@ listed_once : (m : Name) (found : Found) → values (first_in (listed_at m found
 listed_once Budget found = values_of_listed found.budget
 listed_once Workers found = values_of_listed found.workers
 listed_once Carriers found = values_of_listed found.carriers
+listed_once Upto found = values_of_listed found.upto
 
 pub read_option : (m : Name) (matched : Matched) (items : List Item) (found : Found) → rows_of matched ≡ said_rows items 1 → Fits items found
     → values (first_value matched (name_of m)) ≡ values_for m items
@@ -296,6 +329,10 @@ seed_said command.Chart placed first n count e is = is
 seed_said command.Drill [] first n count e is = absurd (omega (arith, count))
 seed_said command.Drill (v ∷ []) first n count e (is, below) = (sym (ap values e) ∙ is, below)
 seed_said command.Drill (v ∷ w ∷ vs) first n count e is = absurd (omega (arith, count))
+seed_said command.Sweep placed first n count e is = is
+seed_said command.Margin placed first n count e is = is
+seed_said command.Follow placed first n count e is = is
+seed_said command.Batch placed first n count e is = is
 
 files_read : (matched : Matched) (files : List (List ℕ)) → 1 ≤ length files → length files ≤ 2 → first_value matched (codes "first") ≡ first_in files
     → first_value matched (codes "second") ≡ first_in (drop 1 files) → AreFiles matched files
@@ -334,6 +371,7 @@ numbers_read c matched items found numbers rows known fits are seed = record {
   budget = number Budget;
   workers = number Workers;
   carriers = number Carriers;
+  upto = number Upto;
   seed = seed_read (row_of c).seed (files_of items) (first_value matched (codes "first")) numbers.seed (read_first matched items rows known) seed;
 }
   where
@@ -345,6 +383,7 @@ number_read : (m : Name) (c : CommandName) (matched : Matched) (numbers : Number
 number_read Budget c matched numbers are = are.budget
 number_read Workers c matched numbers are = are.workers
 number_read Carriers c matched numbers are = are.carriers
+number_read Upto c matched numbers are = are.upto
 
 pub asked : (c : CommandName) (words : List (List ℕ)) (found : Found) (matched : Matched) (answer : Option Request)
     → slice_get words 1 ≡ Some (name_of_command c)
@@ -370,6 +409,7 @@ asked c words found matched (Some request) named items says known fits row rows 
       budget_is = number Budget;
       workers_are = number Workers;
       carriers_are = number Carriers;
+      upto_is = number Upto;
     }
   where
     number : (m : Name) → IsNumber (limits_of (command_in request) m) (values_for m items) (number_at m (numbers_in request))
@@ -386,13 +426,20 @@ seed_same command.Run placed m n h g = h ∙ sym g
 seed_same command.Chart placed m n h g = h ∙ sym g
 seed_same command.Drill placed m n (h, below) (g, under) =
     decimal_injective m n (omega (arith, below)) (omega (arith, under)) (ap (λ (xs : List (List ℕ)). get_or xs 0 []) (sym h ∙ g))
+seed_same command.Sweep placed m n h g = h ∙ sym g
+seed_same command.Margin placed m n h g = h ∙ sym g
+seed_same command.Follow placed m n h g = h ∙ sym g
+seed_same command.Batch placed m n h g = h ∙ sym g
 
-abbrev numbers_as : ℕ → ℕ → ℕ → ℕ → Numbers
-numbers_as budget workers carriers seed = record { budget = budget; workers = workers; carriers = carriers; seed = seed }
+abbrev numbers_as : ℕ → ℕ → ℕ → ℕ → ℕ → Numbers
+numbers_as budget workers carriers upto seed =
+    record { budget = budget; workers = workers; carriers = carriers; upto = upto; seed = seed }
 
 same_numbers : (n k : Numbers) → ((m : Name) → number_at m n ≡ number_at m k) → n.seed ≡ k.seed → n ≡ k
 same_numbers n k same seed =
-    ap₂ (λ b w. numbers_as b w n.carriers n.seed) (same Budget) (same Workers) ∙ ap₂ (numbers_as k.budget k.workers) (same Carriers) seed
+    ap₂ (λ b w. numbers_as b w n.carriers n.upto n.seed) (same Budget) (same Workers)
+    ∙ ap₂ (λ c u. numbers_as k.budget k.workers c u n.seed) (same Carriers) (same Upto)
+    ∙ ap (numbers_as k.budget k.workers k.carriers k.upto) seed
 
 pub one_asked : (words files files' : List (List ℕ)) (c c' : CommandName) (numbers numbers' : Numbers) → AsksFor c words files numbers
     → AsksFor c' words files' numbers' → (c ≡ c') × (files ≡ files') × (numbers ≡ numbers')

@@ -23,9 +23,9 @@ use Rattle.hoist_words.specs.declared.table.Limits.{Limits}
 use Rattle.hoist_words.specs.Table.{row_of}
 use Rattle.hoist_words.proofs.ReadingLemmas.{known_name, options_tail}
 use Rattle.hoist_words.specs.declared.forms.Name.{Name}
-use Rattle.hoist_words.specs.declared.forms.Name.TheVariants.{Budget, Workers, Carriers}
+use Rattle.hoist_words.specs.declared.forms.Name.TheVariants.{Budget, Workers, Carriers, Upto}
 use Rattle.hoist_words.specs.declared.table.CommandName.{CommandName}
-use Rattle.hoist_words.specs.declared.table.CommandName.TheVariants.{Solve, Check, Run, Chart, Drill}
+use Rattle.hoist_words.specs.declared.table.CommandName.TheVariants.{Solve, Check, Run, Chart, Drill, Sweep, Margin, Follow, Batch}
 
 no_dash : (b : ℕ) → (b ≡ 45 → ⊥) → (b == 45) ≡ false
 no_dash b other = ne_eqb b 45 other
@@ -56,12 +56,24 @@ abbrev pub Takes : CommandName → Name → Type 0
 Takes Solve Budget = Unit {0}
 Takes Solve Workers = Unit {0}
 Takes Solve Carriers = ⊥
+Takes Solve Upto = ⊥
 Takes Check m = ⊥
 Takes Run Budget = ⊥
 Takes Run Workers = ⊥
 Takes Run Carriers = Unit {0}
+Takes Run Upto = ⊥
 Takes Chart m = ⊥
 Takes Drill m = ⊥
+Takes Sweep Budget = Unit {0}
+Takes Sweep Workers = Unit {0}
+Takes Sweep Carriers = ⊥
+Takes Sweep Upto = Unit {0}
+Takes Margin m = ⊥
+Takes Follow m = ⊥
+Takes Batch Budget = Unit {0}
+Takes Batch Workers = Unit {0}
+Takes Batch Carriers = ⊥
+Takes Batch Upto = ⊥
 
 -- the name of the place of a file
 abbrev pub id_at : ℕ → List ℕ
@@ -86,12 +98,24 @@ unfolding clap_on_literals
 opens Solve Budget rows pending p takes = refl
 opens Solve Workers rows pending p takes = refl
 opens Solve Carriers rows pending p takes = absurd takes
+opens Solve Upto rows pending p takes = absurd takes
 opens Check m rows pending p takes = absurd takes
 opens Run Budget rows pending p takes = absurd takes
 opens Run Workers rows pending p takes = absurd takes
 opens Run Carriers rows pending p takes = refl
+opens Run Upto rows pending p takes = absurd takes
 opens Chart m rows pending p takes = absurd takes
 opens Drill m rows pending p takes = absurd takes
+opens Sweep Budget rows pending p takes = refl
+opens Sweep Workers rows pending p takes = refl
+opens Sweep Carriers rows pending p takes = absurd takes
+opens Sweep Upto rows pending p takes = refl
+opens Margin m rows pending p takes = absurd takes
+opens Follow m rows pending p takes = absurd takes
+opens Batch Budget rows pending p takes = refl
+opens Batch Workers rows pending p takes = refl
+opens Batch Carriers rows pending p takes = absurd takes
+opens Batch Upto rows pending p takes = absurd takes
 
 pub reads_value : (c : CommandName) (m : Name) (rows : List Row) (p : ℕ) (v : List ℕ) → Takes c m → IsFileName v
     → walked (rules c) [] (at rows (Some (name_of m, [])) p (option (name_of m))) v ≡ at rows (Some (name_of m, v ∷ [])) p idle
@@ -101,13 +125,30 @@ reads_value Solve Budget rows p (b ∷ bs) takes plain = simp (no_dash b plain) 
 reads_value Solve Workers rows p [] takes plain = absurd plain
 reads_value Solve Workers rows p (b ∷ bs) takes plain = simp (no_dash b plain) refl
 reads_value Solve Carriers rows p v takes plain = absurd takes
+reads_value Solve Upto rows p v takes plain = absurd takes
 reads_value Check m rows p v takes plain = absurd takes
 reads_value Run Budget rows p v takes plain = absurd takes
 reads_value Run Workers rows p v takes plain = absurd takes
 reads_value Run Carriers rows p [] takes plain = absurd plain
 reads_value Run Carriers rows p (b ∷ bs) takes plain = simp (no_dash b plain) refl
+reads_value Run Upto rows p v takes plain = absurd takes
 reads_value Chart m rows p v takes plain = absurd takes
 reads_value Drill m rows p v takes plain = absurd takes
+reads_value Sweep Budget rows p [] takes plain = absurd plain
+reads_value Sweep Budget rows p (b ∷ bs) takes plain = simp (no_dash b plain) refl
+reads_value Sweep Workers rows p [] takes plain = absurd plain
+reads_value Sweep Workers rows p (b ∷ bs) takes plain = simp (no_dash b plain) refl
+reads_value Sweep Carriers rows p v takes plain = absurd takes
+reads_value Sweep Upto rows p [] takes plain = absurd plain
+reads_value Sweep Upto rows p (b ∷ bs) takes plain = simp (no_dash b plain) refl
+reads_value Margin m rows p v takes plain = absurd takes
+reads_value Follow m rows p v takes plain = absurd takes
+reads_value Batch Budget rows p [] takes plain = absurd plain
+reads_value Batch Budget rows p (b ∷ bs) takes plain = simp (no_dash b plain) refl
+reads_value Batch Workers rows p [] takes plain = absurd plain
+reads_value Batch Workers rows p (b ∷ bs) takes plain = simp (no_dash b plain) refl
+reads_value Batch Carriers rows p v takes plain = absurd takes
+reads_value Batch Upto rows p v takes plain = absurd takes
 
 pub reads_joined : (c : CommandName) (m : Name) (rows : List Row) (pending : Pending) (p : ℕ) (v : List ℕ) → Takes c m
     → walked (rules c) [] (at rows pending p idle) (joined (name_of m) v) ≡ at (used (option_row m) (v ∷ []) (rows_at c rows pending)) None p idle
@@ -115,12 +156,24 @@ unfolding clap_on_literals
 reads_joined Solve Budget rows pending p v takes = refl
 reads_joined Solve Workers rows pending p v takes = refl
 reads_joined Solve Carriers rows pending p v takes = absurd takes
+reads_joined Solve Upto rows pending p v takes = absurd takes
 reads_joined Check m rows pending p v takes = absurd takes
 reads_joined Run Budget rows pending p v takes = absurd takes
 reads_joined Run Workers rows pending p v takes = absurd takes
 reads_joined Run Carriers rows pending p v takes = refl
+reads_joined Run Upto rows pending p v takes = absurd takes
 reads_joined Chart m rows pending p v takes = absurd takes
 reads_joined Drill m rows pending p v takes = absurd takes
+reads_joined Sweep Budget rows pending p v takes = refl
+reads_joined Sweep Workers rows pending p v takes = refl
+reads_joined Sweep Carriers rows pending p v takes = absurd takes
+reads_joined Sweep Upto rows pending p v takes = refl
+reads_joined Margin m rows pending p v takes = absurd takes
+reads_joined Follow m rows pending p v takes = absurd takes
+reads_joined Batch Budget rows pending p v takes = refl
+reads_joined Batch Workers rows pending p v takes = refl
+reads_joined Batch Carriers rows pending p v takes = absurd takes
+reads_joined Batch Upto rows pending p v takes = absurd takes
 
 reads_first : (c : CommandName) (rows : List Row) (pending : Pending) (w : List ℕ) → IsFileName w
     → walked (rules c) [] (at rows pending 1 idle) w ≡ at (rows_at c rows pending) (Some (codes "first", w ∷ [])) 2 idle
@@ -136,6 +189,14 @@ reads_first Chart rows None (b ∷ bs) plain = simp (no_dash b plain) refl
 reads_first Chart rows (Some q) (b ∷ bs) plain = simp (no_dash b plain, and_false) refl
 reads_first Drill rows None (b ∷ bs) plain = simp (no_dash b plain) refl
 reads_first Drill rows (Some q) (b ∷ bs) plain = simp (no_dash b plain, and_false) refl
+reads_first Sweep rows None (b ∷ bs) plain = simp (no_dash b plain) refl
+reads_first Sweep rows (Some q) (b ∷ bs) plain = simp (no_dash b plain, and_false) refl
+reads_first Margin rows None (b ∷ bs) plain = simp (no_dash b plain) refl
+reads_first Margin rows (Some q) (b ∷ bs) plain = simp (no_dash b plain, and_false) refl
+reads_first Follow rows None (b ∷ bs) plain = simp (no_dash b plain) refl
+reads_first Follow rows (Some q) (b ∷ bs) plain = simp (no_dash b plain, and_false) refl
+reads_first Batch rows None (b ∷ bs) plain = simp (no_dash b plain) refl
+reads_first Batch rows (Some q) (b ∷ bs) plain = simp (no_dash b plain, and_false) refl
 
 reads_second : (c : CommandName) (rows : List Row) (pending : Pending) (w : List ℕ) → HasSecond c → IsFileName w
     → walked (rules c) [] (at rows pending 2 idle) w ≡ at (rows_at c rows pending) (Some (codes "second", w ∷ [])) 3 idle
@@ -149,6 +210,12 @@ reads_second Run rows (Some q) (b ∷ bs) second plain = simp (no_dash b plain, 
 reads_second Chart rows None (b ∷ bs) second plain = simp (no_dash b plain) refl
 reads_second Chart rows (Some q) (b ∷ bs) second plain = simp (no_dash b plain, and_false) refl
 reads_second Drill rows pending (b ∷ bs) second plain = absurd (omega (arith, second))
+reads_second Sweep rows pending (b ∷ bs) second plain = absurd (omega (arith, second))
+reads_second Margin rows None (b ∷ bs) second plain = simp (no_dash b plain) refl
+reads_second Margin rows (Some q) (b ∷ bs) second plain = simp (no_dash b plain, and_false) refl
+reads_second Follow rows None (b ∷ bs) second plain = simp (no_dash b plain) refl
+reads_second Follow rows (Some q) (b ∷ bs) second plain = simp (no_dash b plain, and_false) refl
+reads_second Batch rows pending (b ∷ bs) second plain = absurd (omega (arith, second))
 
 -- the steps are taken
 
@@ -164,12 +231,24 @@ unfolding clap_on_literals
 opening_passes Solve Budget rows pending p takes passes = simp (passes) refl
 opening_passes Solve Workers rows pending p takes passes = simp (passes) refl
 opening_passes Solve Carriers rows pending p takes passes = absurd takes
+opening_passes Solve Upto rows pending p takes passes = absurd takes
 opening_passes Check m rows pending p takes passes = absurd takes
 opening_passes Run Budget rows pending p takes passes = absurd takes
 opening_passes Run Workers rows pending p takes passes = absurd takes
 opening_passes Run Carriers rows pending p takes passes = simp (passes) refl
+opening_passes Run Upto rows pending p takes passes = absurd takes
 opening_passes Chart m rows pending p takes passes = absurd takes
 opening_passes Drill m rows pending p takes passes = absurd takes
+opening_passes Sweep Budget rows pending p takes passes = simp (passes) refl
+opening_passes Sweep Workers rows pending p takes passes = simp (passes) refl
+opening_passes Sweep Carriers rows pending p takes passes = absurd takes
+opening_passes Sweep Upto rows pending p takes passes = simp (passes) refl
+opening_passes Margin m rows pending p takes passes = absurd takes
+opening_passes Follow m rows pending p takes passes = absurd takes
+opening_passes Batch Budget rows pending p takes passes = simp (passes) refl
+opening_passes Batch Workers rows pending p takes passes = simp (passes) refl
+opening_passes Batch Carriers rows pending p takes passes = absurd takes
+opening_passes Batch Upto rows pending p takes passes = absurd takes
 
 pub value_passes : (c : CommandName) (m : Name) (rows : List Row) (p : ℕ) (v : List ℕ) → Takes c m → IsFileName v
     → turn_passes (shape c) [] (at rows (Some (name_of m, [])) p (option (name_of m))) v ≡ true
@@ -179,13 +258,30 @@ value_passes Solve Budget rows p (b ∷ bs) takes plain = simp (no_dash b plain)
 value_passes Solve Workers rows p [] takes plain = absurd plain
 value_passes Solve Workers rows p (b ∷ bs) takes plain = simp (no_dash b plain) refl
 value_passes Solve Carriers rows p v takes plain = absurd takes
+value_passes Solve Upto rows p v takes plain = absurd takes
 value_passes Check m rows p v takes plain = absurd takes
 value_passes Run Budget rows p v takes plain = absurd takes
 value_passes Run Workers rows p v takes plain = absurd takes
 value_passes Run Carriers rows p [] takes plain = absurd plain
 value_passes Run Carriers rows p (b ∷ bs) takes plain = simp (no_dash b plain) refl
+value_passes Run Upto rows p v takes plain = absurd takes
 value_passes Chart m rows p v takes plain = absurd takes
 value_passes Drill m rows p v takes plain = absurd takes
+value_passes Sweep Budget rows p [] takes plain = absurd plain
+value_passes Sweep Budget rows p (b ∷ bs) takes plain = simp (no_dash b plain) refl
+value_passes Sweep Workers rows p [] takes plain = absurd plain
+value_passes Sweep Workers rows p (b ∷ bs) takes plain = simp (no_dash b plain) refl
+value_passes Sweep Carriers rows p v takes plain = absurd takes
+value_passes Sweep Upto rows p [] takes plain = absurd plain
+value_passes Sweep Upto rows p (b ∷ bs) takes plain = simp (no_dash b plain) refl
+value_passes Margin m rows p v takes plain = absurd takes
+value_passes Follow m rows p v takes plain = absurd takes
+value_passes Batch Budget rows p [] takes plain = absurd plain
+value_passes Batch Budget rows p (b ∷ bs) takes plain = simp (no_dash b plain) refl
+value_passes Batch Workers rows p [] takes plain = absurd plain
+value_passes Batch Workers rows p (b ∷ bs) takes plain = simp (no_dash b plain) refl
+value_passes Batch Carriers rows p v takes plain = absurd takes
+value_passes Batch Upto rows p v takes plain = absurd takes
 
 pub joined_passes : (c : CommandName) (m : Name) (rows : List Row) (pending : Pending) (p : ℕ) (v : List ℕ) → Takes c m → Passes c rows pending
     → has_row (name_of m) (rows_at c rows pending) ≡ false
@@ -194,12 +290,24 @@ unfolding clap_on_literals
 joined_passes Solve Budget rows pending p v takes passes new = simp (passes, new) refl
 joined_passes Solve Workers rows pending p v takes passes new = simp (passes, new) refl
 joined_passes Solve Carriers rows pending p v takes passes new = absurd takes
+joined_passes Solve Upto rows pending p v takes passes new = absurd takes
 joined_passes Check m rows pending p v takes passes new = absurd takes
 joined_passes Run Budget rows pending p v takes passes new = absurd takes
 joined_passes Run Workers rows pending p v takes passes new = absurd takes
 joined_passes Run Carriers rows pending p v takes passes new = simp (passes, new) refl
+joined_passes Run Upto rows pending p v takes passes new = absurd takes
 joined_passes Chart m rows pending p v takes passes new = absurd takes
 joined_passes Drill m rows pending p v takes passes new = absurd takes
+joined_passes Sweep Budget rows pending p v takes passes new = simp (passes, new) refl
+joined_passes Sweep Workers rows pending p v takes passes new = simp (passes, new) refl
+joined_passes Sweep Carriers rows pending p v takes passes new = absurd takes
+joined_passes Sweep Upto rows pending p v takes passes new = simp (passes, new) refl
+joined_passes Margin m rows pending p v takes passes new = absurd takes
+joined_passes Follow m rows pending p v takes passes new = absurd takes
+joined_passes Batch Budget rows pending p v takes passes new = simp (passes, new) refl
+joined_passes Batch Workers rows pending p v takes passes new = simp (passes, new) refl
+joined_passes Batch Carriers rows pending p v takes passes new = absurd takes
+joined_passes Batch Upto rows pending p v takes passes new = absurd takes
 
 first_passes : (c : CommandName) (rows : List Row) (pending : Pending) (w : List ℕ) → IsFileName w → Passes c rows pending
     → turn_passes (shape c) [] (at rows pending 1 idle) w ≡ true
@@ -210,6 +318,10 @@ first_passes Check rows pending (b ∷ bs) plain passes = simp (no_dash b plain,
 first_passes Run rows pending (b ∷ bs) plain passes = simp (no_dash b plain, passes, and_false) refl
 first_passes Chart rows pending (b ∷ bs) plain passes = simp (no_dash b plain, passes, and_false) refl
 first_passes Drill rows pending (b ∷ bs) plain passes = simp (no_dash b plain, passes, and_false) refl
+first_passes Sweep rows pending (b ∷ bs) plain passes = simp (no_dash b plain, passes, and_false) refl
+first_passes Margin rows pending (b ∷ bs) plain passes = simp (no_dash b plain, passes, and_false) refl
+first_passes Follow rows pending (b ∷ bs) plain passes = simp (no_dash b plain, passes, and_false) refl
+first_passes Batch rows pending (b ∷ bs) plain passes = simp (no_dash b plain, passes, and_false) refl
 
 second_passes : (c : CommandName) (rows : List Row) (pending : Pending) (w : List ℕ) → HasSecond c → IsFileName w → Passes c rows pending
     → turn_passes (shape c) [] (at rows pending 2 idle) w ≡ true
@@ -220,6 +332,10 @@ second_passes Check rows pending (b ∷ bs) second plain passes = simp (no_dash 
 second_passes Run rows pending (b ∷ bs) second plain passes = simp (no_dash b plain, passes, and_false) refl
 second_passes Chart rows pending (b ∷ bs) second plain passes = simp (no_dash b plain, passes, and_false) refl
 second_passes Drill rows pending (b ∷ bs) second plain passes = absurd (omega (arith, second))
+second_passes Sweep rows pending (b ∷ bs) second plain passes = absurd (omega (arith, second))
+second_passes Margin rows pending (b ∷ bs) second plain passes = simp (no_dash b plain, passes, and_false) refl
+second_passes Follow rows pending (b ∷ bs) second plain passes = simp (no_dash b plain, passes, and_false) refl
+second_passes Batch rows pending (b ∷ bs) second plain passes = absurd (omega (arith, second))
 
 -- what is pending is taken
 
@@ -230,6 +346,10 @@ pending_first Check rows w new = simp (new) refl
 pending_first Run rows w new = simp (new) refl
 pending_first Chart rows w new = simp (new) refl
 pending_first Drill rows w new = simp (new) refl
+pending_first Sweep rows w new = simp (new) refl
+pending_first Margin rows w new = simp (new) refl
+pending_first Follow rows w new = simp (new) refl
+pending_first Batch rows w new = simp (new) refl
 
 pending_second : (c : CommandName) (rows : List Row) (w : List ℕ) → HasSecond c → has_row (codes "second") rows ≡ false
     → Passes c rows (Some (codes "second", w ∷ []))
@@ -239,6 +359,10 @@ pending_second Check rows w second new = simp (new) refl
 pending_second Run rows w second new = simp (new) refl
 pending_second Chart rows w second new = simp (new) refl
 pending_second Drill rows w second new = absurd (omega (arith, second))
+pending_second Sweep rows w second new = absurd (omega (arith, second))
+pending_second Margin rows w second new = simp (new) refl
+pending_second Follow rows w second new = simp (new) refl
+pending_second Batch rows w second new = absurd (omega (arith, second))
 
 pending_file : (c : CommandName) (p : ℕ) (rows : List Row) (w : List ℕ) → IsPlace c p → has_row (id_at p) rows ≡ false
     → Passes c rows (Some (id_at p, w ∷ []))
@@ -253,12 +377,24 @@ unfolding clap_on_literals
 pending_option Solve Budget rows v takes new = simp (new) refl
 pending_option Solve Workers rows v takes new = simp (new) refl
 pending_option Solve Carriers rows v takes new = absurd takes
+pending_option Solve Upto rows v takes new = absurd takes
 pending_option Check m rows v takes new = absurd takes
 pending_option Run Budget rows v takes new = absurd takes
 pending_option Run Workers rows v takes new = absurd takes
 pending_option Run Carriers rows v takes new = simp (new) refl
+pending_option Run Upto rows v takes new = absurd takes
 pending_option Chart m rows v takes new = absurd takes
 pending_option Drill m rows v takes new = absurd takes
+pending_option Sweep Budget rows v takes new = simp (new) refl
+pending_option Sweep Workers rows v takes new = simp (new) refl
+pending_option Sweep Carriers rows v takes new = absurd takes
+pending_option Sweep Upto rows v takes new = simp (new) refl
+pending_option Margin m rows v takes new = absurd takes
+pending_option Follow m rows v takes new = absurd takes
+pending_option Batch Budget rows v takes new = simp (new) refl
+pending_option Batch Workers rows v takes new = simp (new) refl
+pending_option Batch Carriers rows v takes new = absurd takes
+pending_option Batch Upto rows v takes new = absurd takes
 
 -- the row of a word
 
@@ -285,18 +421,31 @@ used_option : (m : Name) (v : List ℕ) (rows : List Row) → has_row (name_of m
 used_option Budget v rows new = with_new (codes "budget") v rows _ new
 used_option Workers v rows new = with_new (codes "workers") v rows _ new
 used_option Carriers v rows new = with_new (codes "carriers") v rows _ new
+used_option Upto v rows new = with_new (codes "upto") v rows _ new
 
 rows_option : (c : CommandName) (m : Name) (v : List ℕ) (rows : List Row) → Takes c m → has_row (name_of m) rows ≡ false
     → rows_at c rows (Some (name_of m, v ∷ [])) ≡ rows ++ said (name_of m) v ∷ []
 rows_option Solve Budget v rows takes new = used_option Budget v rows new
 rows_option Solve Workers v rows takes new = used_option Workers v rows new
 rows_option Solve Carriers v rows takes new = absurd takes
+rows_option Solve Upto v rows takes new = absurd takes
 rows_option Check m v rows takes new = absurd takes
 rows_option Run Budget v rows takes new = absurd takes
 rows_option Run Workers v rows takes new = absurd takes
 rows_option Run Carriers v rows takes new = used_option Carriers v rows new
+rows_option Run Upto v rows takes new = absurd takes
 rows_option Chart m v rows takes new = absurd takes
 rows_option Drill m v rows takes new = absurd takes
+rows_option Sweep Budget v rows takes new = used_option Budget v rows new
+rows_option Sweep Workers v rows takes new = used_option Workers v rows new
+rows_option Sweep Carriers v rows takes new = absurd takes
+rows_option Sweep Upto v rows takes new = used_option Upto v rows new
+rows_option Margin m v rows takes new = absurd takes
+rows_option Follow m v rows takes new = absurd takes
+rows_option Batch Budget v rows takes new = used_option Budget v rows new
+rows_option Batch Workers v rows takes new = used_option Workers v rows new
+rows_option Batch Carriers v rows takes new = absurd takes
+rows_option Batch Upto v rows takes new = absurd takes
 
 rows_first : (c : CommandName) (w : List ℕ) (rows : List Row) → has_row (codes "first") rows ≡ false
     → rows_at c rows (Some (codes "first", w ∷ [])) ≡ rows ++ said (codes "first") w ∷ []
@@ -305,6 +454,10 @@ rows_first Check w rows new = with_new (codes "first") w rows _ new
 rows_first Run w rows new = with_new (codes "first") w rows _ new
 rows_first Chart w rows new = with_new (codes "first") w rows _ new
 rows_first Drill w rows new = with_new (codes "first") w rows _ new
+rows_first Sweep w rows new = with_new (codes "first") w rows _ new
+rows_first Margin w rows new = with_new (codes "first") w rows _ new
+rows_first Follow w rows new = with_new (codes "first") w rows _ new
+rows_first Batch w rows new = with_new (codes "first") w rows _ new
 
 rows_second : (c : CommandName) (w : List ℕ) (rows : List Row) → HasSecond c → has_row (codes "second") rows ≡ false
     → rows_at c rows (Some (codes "second", w ∷ [])) ≡ rows ++ said (codes "second") w ∷ []
@@ -313,6 +466,10 @@ rows_second Check w rows second new = with_new (codes "second") w rows _ new
 rows_second Run w rows second new = with_new (codes "second") w rows _ new
 rows_second Chart w rows second new = with_new (codes "second") w rows _ new
 rows_second Drill w rows second new = absurd (omega (arith, second))
+rows_second Sweep w rows second new = absurd (omega (arith, second))
+rows_second Margin w rows second new = with_new (codes "second") w rows _ new
+rows_second Follow w rows second new = with_new (codes "second") w rows _ new
+rows_second Batch w rows second new = absurd (omega (arith, second))
 
 rows_file : (c : CommandName) (p : ℕ) (w : List ℕ) (rows : List Row) → IsPlace c p → has_row (id_at p) rows ≡ false
     → rows_at c rows (Some (id_at p, w ∷ [])) ≡ rows ++ said (id_at p) w ∷ []
@@ -460,6 +617,8 @@ option_not_id Workers true = refl
 option_not_id Workers false = refl
 option_not_id Carriers true = refl
 option_not_id Carriers false = refl
+option_not_id Upto true = refl
+option_not_id Upto false = refl
 
 id_not_option : (m : Name) (p : ℕ) → bytes_eq (id_at p) (name_of m) ≡ false
 id_not_option m p = go m (p == 1)
@@ -471,6 +630,8 @@ id_not_option m p = go m (p == 1)
     go Workers false = refl
     go Carriers true = refl
     go Carriers false = refl
+    go Upto true = refl
+    go Upto false = refl
 
 same_bytes : (a b : List ℕ) → bytes_eq a b ≡ true → a ≡ b
 same_bytes a b e = (bytes_eq-Decides a b).0 e
@@ -545,6 +706,10 @@ at_most_two Check = omega arith
 at_most_two Run = omega arith
 at_most_two Chart = omega arith
 at_most_two Drill = omega arith
+at_most_two Sweep = omega arith
+at_most_two Margin = omega arith
+at_most_two Follow = omega arith
+at_most_two Batch = omega arith
 
 place_of : (c : CommandName) (p : ℕ) → 1 ≤ p → p ≤ (row_of c).files → IsPlace c p
 place_of c zero least fit = absurd (omega (arith, least))
@@ -652,6 +817,10 @@ finished_is Check rows pending = simp (same_if) refl
 finished_is Run rows pending = simp (same_if) refl
 finished_is Chart rows pending = simp (same_if) refl
 finished_is Drill rows pending = simp (same_if) refl
+finished_is Sweep rows pending = simp (same_if) refl
+finished_is Margin rows pending = simp (same_if) refl
+finished_is Follow rows pending = simp (same_if) refl
+finished_is Batch rows pending = simp (same_if) refl
 
 -- a list that has a first word says its row
 some_said : (id : List ℕ) (vs : List (List ℕ)) (r : Option Row) → r ≡ first_said id vs → 1 ≤ length vs → (w : List ℕ) × (r ≡ Some (said id w))
@@ -665,6 +834,10 @@ valid_rows Check rows (w, first) second = let (v, other) = second (omega arith) 
 valid_rows Run rows (w, first) second = let (v, other) = second (omega arith) in simp (first, other) refl
 valid_rows Chart rows (w, first) second = let (v, other) = second (omega arith) in simp (first, other) refl
 valid_rows Drill rows (w, first) second = simp (first) refl
+valid_rows Sweep rows (w, first) second = simp (first) refl
+valid_rows Margin rows (w, first) second = let (v, other) = second (omega arith) in simp (first, other) refl
+valid_rows Follow rows (w, first) second = let (v, other) = second (omega arith) in simp (first, other) refl
+valid_rows Batch rows (w, first) second = simp (first) refl
 
 pub some_file : (c : CommandName) → 1 ≤ (row_of c).files
 some_file Solve = omega arith
@@ -672,6 +845,10 @@ some_file Check = omega arith
 some_file Run = omega arith
 some_file Chart = omega arith
 some_file Drill = omega arith
+some_file Sweep = omega arith
+some_file Margin = omega arith
+some_file Follow = omega arith
+some_file Batch = omega arith
 
 valid : (c : CommandName) (items : List Item) → AreOptions items → length (files_of items) ≡ (row_of c).files
     → is_valid (shape c) (said_rows items 1) false ≡ true
@@ -693,6 +870,10 @@ taken_as Check word words = refl
 taken_as Run word words = refl
 taken_as Chart word words = refl
 taken_as Drill word words = refl
+taken_as Sweep word words = refl
+taken_as Margin word words = refl
+taken_as Follow word words = refl
+taken_as Batch word words = refl
 
 defaults_pass : (c : CommandName) → list_all default_passes (rules c) ≡ true
 unfolding clap_on_literals
@@ -701,6 +882,10 @@ defaults_pass Check = refl
 defaults_pass Run = refl
 defaults_pass Chart = refl
 defaults_pass Drill = refl
+defaults_pass Sweep = refl
+defaults_pass Margin = refl
+defaults_pass Follow = refl
+defaults_pass Batch = refl
 
 taken_at_end : (c : CommandName) (rows : List Row) (pending : Pending) (p : ℕ) → Passes c rows pending
     → is_valid (shape c) (rows_at c rows pending) false ≡ true → taken_after c (at rows pending p idle) true ≡ true
@@ -709,6 +894,10 @@ taken_at_end Check rows pending p passes is = rw (passes, defaults_pass Check, f
 taken_at_end Run rows pending p passes is = rw (passes, defaults_pass Run, finished_is Run rows pending, is) refl
 taken_at_end Chart rows pending p passes is = rw (passes, defaults_pass Chart, finished_is Chart rows pending, is) refl
 taken_at_end Drill rows pending p passes is = rw (passes, defaults_pass Drill, finished_is Drill rows pending, is) refl
+taken_at_end Sweep rows pending p passes is = rw (passes, defaults_pass Sweep, finished_is Sweep rows pending, is) refl
+taken_at_end Margin rows pending p passes is = rw (passes, defaults_pass Margin, finished_is Margin rows pending, is) refl
+taken_at_end Follow rows pending p passes is = rw (passes, defaults_pass Follow, finished_is Follow rows pending, is) refl
+taken_at_end Batch rows pending p passes is = rw (passes, defaults_pass Batch, finished_is Batch rows pending, is) refl
 
 pub words_taken : (c : CommandName) (items : List Item) (word : List ℕ) (words : List (List ℕ)) → Says items words → AreOptions items
     → length (files_of items) ≡ (row_of c).files → AreNew c items 1 [] → takes (app_for c) (word ∷ words) ≡ true
@@ -724,6 +913,10 @@ matches_as Check word words = refl
 matches_as Run word words = refl
 matches_as Chart word words = refl
 matches_as Drill word words = refl
+matches_as Sweep word words = refl
+matches_as Margin word words = refl
+matches_as Follow word words = refl
+matches_as Batch word words = refl
 
 pub words_read : (c : CommandName) (items : List Item) (word : List ℕ) (words : List (List ℕ)) → Says items words → AreNew c items 1 []
     → matches_of (app_for c) (word ∷ words) ≡ said_rows items 1
@@ -737,23 +930,45 @@ abbrev pub limits_of : CommandName → Name → Option Limits
 limits_of c Budget = (row_of c).budget
 limits_of c Workers = (row_of c).workers
 limits_of c Carriers = (row_of c).carriers
+limits_of c Upto = (row_of c).upto
 
 takes_if : (c : CommandName) (m : Name) → is_some (limits_of c m) ≡ true → Takes c m
 takes_if Solve Budget some = tt
 takes_if Solve Workers some = tt
 takes_if Solve Carriers some = absurd (true≢false (sym some))
+takes_if Solve Upto some = absurd (true≢false (sym some))
 takes_if Check Budget some = absurd (true≢false (sym some))
 takes_if Check Workers some = absurd (true≢false (sym some))
 takes_if Check Carriers some = absurd (true≢false (sym some))
+takes_if Check Upto some = absurd (true≢false (sym some))
 takes_if Run Budget some = absurd (true≢false (sym some))
 takes_if Run Workers some = absurd (true≢false (sym some))
 takes_if Run Carriers some = tt
+takes_if Run Upto some = absurd (true≢false (sym some))
 takes_if Chart Budget some = absurd (true≢false (sym some))
 takes_if Chart Workers some = absurd (true≢false (sym some))
 takes_if Chart Carriers some = absurd (true≢false (sym some))
+takes_if Chart Upto some = absurd (true≢false (sym some))
 takes_if Drill Budget some = absurd (true≢false (sym some))
 takes_if Drill Workers some = absurd (true≢false (sym some))
 takes_if Drill Carriers some = absurd (true≢false (sym some))
+takes_if Drill Upto some = absurd (true≢false (sym some))
+takes_if Sweep Budget some = tt
+takes_if Sweep Workers some = tt
+takes_if Sweep Carriers some = absurd (true≢false (sym some))
+takes_if Sweep Upto some = tt
+takes_if Margin Budget some = absurd (true≢false (sym some))
+takes_if Margin Workers some = absurd (true≢false (sym some))
+takes_if Margin Carriers some = absurd (true≢false (sym some))
+takes_if Margin Upto some = absurd (true≢false (sym some))
+takes_if Follow Budget some = absurd (true≢false (sym some))
+takes_if Follow Workers some = absurd (true≢false (sym some))
+takes_if Follow Carriers some = absurd (true≢false (sym some))
+takes_if Follow Upto some = absurd (true≢false (sym some))
+takes_if Batch Budget some = tt
+takes_if Batch Workers some = tt
+takes_if Batch Carriers some = absurd (true≢false (sym some))
+takes_if Batch Upto some = absurd (true≢false (sym some))
 
 room_of : (c : CommandName) (m : Name) (items : List Item) (given : Option (Bor (List ℕ))) → values_for m items ≡ listed given
     → IsPlainFor (limits_of c m) (listed given) → HasRoom c m items []
@@ -783,6 +998,7 @@ new_found c items found known fits row =
     room Budget = room_of c Budget items found.budget fits.budget row.budget
     room Workers = room_of c Workers items found.workers fits.workers row.workers
     room Carriers = room_of c Carriers items found.carriers fits.carriers row.carriers
+    room Upto = room_of c Upto items found.upto fits.upto row.upto
 
 -- what was read of each name
 

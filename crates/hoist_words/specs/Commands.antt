@@ -24,11 +24,12 @@ with_rule_if is_taken rule app = if is_taken then with_rule app rule else app
 -- the command of a row: its words that are no options by their places, and its options
 abbrev pub app_by : List ℕ → CommandRow → App
 app_by name row =
-    with_rule_if (is_some row.carriers) (option_rule (codes "carriers"))
+    with_rule_if (is_some row.upto) (option_rule (codes "upto"))
+    (with_rule_if (is_some row.carriers) (option_rule (codes "carriers"))
     (with_rule_if (is_some row.workers) (option_rule (codes "workers"))
     (with_rule_if (is_some row.budget) (option_rule (codes "budget"))
     (with_rule_if (nat_lt 1 row.files) (positional_rule (codes "second"))
-    (with_rule (new_app name) (positional_rule (codes "first"))))))
+    (with_rule (new_app name) (positional_rule (codes "first")))))))
 
 abbrev pub app_for : CommandName → App
 app_for command = app_by (name_of_command command) (row_of command)
@@ -50,6 +51,7 @@ pub record AreNumbers (row : CommandRow) (found : Found) (numbers : Numbers) : T
   pub budget : IsNumber row.budget (values (first_value found (codes "budget"))) numbers.budget
   pub workers : IsNumber row.workers (values (first_value found (codes "workers"))) numbers.workers
   pub carriers : IsNumber row.carriers (values (first_value found (codes "carriers"))) numbers.carriers
+  pub upto : IsNumber row.upto (values (first_value found (codes "upto"))) numbers.upto
   pub seed : IsSeed row.seed (values (first_value found (codes "first"))) numbers.seed
 
 -- the files of what was read: none where the command takes a seed

@@ -3,7 +3,7 @@ use Rattle.std.specs.Prelude.{◌≡◌, ◌≢◌, ℕ, List, ◌++◌, codes, 
 use Rattle.std.specs.Borrow.{Bor}
 use Rattle.hoist_words.specs.Request.{IsFileName}
 use Rattle.hoist_words.specs.declared.forms.Name.{Name}
-use Rattle.hoist_words.specs.declared.forms.Name.TheVariants.{Budget, Workers, Carriers}
+use Rattle.hoist_words.specs.declared.forms.Name.TheVariants.{Budget, Workers, Carriers, Upto}
 use Rattle.hoist_words.specs.declared.forms.Form.{Form}
 use Rattle.hoist_words.specs.declared.forms.Form.TheVariants.{File, Opens, Given, Other}
 
@@ -11,6 +11,7 @@ abbrev pub name_of : Name → List ℕ
 name_of Budget = codes "budget"
 name_of Workers = codes "workers"
 name_of Carriers = codes "carriers"
+name_of Upto = codes "upto"
 
 -- an option without its value
 abbrev pub opening : List ℕ → List ℕ

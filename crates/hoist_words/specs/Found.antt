@@ -1,7 +1,7 @@
 -- What the words behind the command say.
 use Rattle.std.specs.Prelude.{◌≡◌, ℕ, ◌≤◌, List, [], ◌∷◌, length, ⊤, Bool, true, false, is_some, Option, Some, None}
 use Rattle.std.specs.Borrow.{Bor}
-use Rattle.hoist_words.specs.Request.{Item, Says, IsFileName, AreKnown, files_of, option_names, values_of, is_budget, is_workers, is_carriers}
+use Rattle.hoist_words.specs.Request.{Item, Says, IsFileName, AreKnown, files_of, option_names, values_of, is_budget, is_workers, is_carriers, is_upto}
 use Rattle.hoist_words.specs.declared.found.Files.{Files}
 use Rattle.hoist_words.specs.declared.found.Files.TheVariants.{Empty, One, Two}
 use Rattle.hoist_words.specs.declared.found.Found.{Found}
@@ -34,12 +34,13 @@ pub record Fits (items : List Item) (found : Found) : Type 0 where
   pub budget : values_of is_budget items ≡ listed found.budget
   pub workers : values_of is_workers items ≡ listed found.workers
   pub carriers : values_of is_carriers items ≡ listed found.carriers
+  pub upto : values_of is_upto items ≡ listed found.upto
 
 -- two words at most that are no options, and each option once at most
 abbrev pub AreFew : List Item → Type 0
 AreFew items =
     (length (files_of items) ≤ 2) × (length (values_of is_budget items) ≤ 1) × (length (values_of is_workers items) ≤ 1)
-    × (length (values_of is_carriers items) ≤ 1)
+    × (length (values_of is_carriers items) ≤ 1) × (length (values_of is_upto items) ≤ 1)
 
 -- what was found is what the words say; or they say nothing that is few
 abbrev pub IsFound : List (List ℕ) → Option Found → Type 0
@@ -67,6 +68,7 @@ pub record FitsRow (row : CommandRow) (found : Found) : Type 0 where
   pub budget : IsPlainFor row.budget (listed found.budget)
   pub workers : IsPlainFor row.workers (listed found.workers)
   pub carriers : IsPlainFor row.carriers (listed found.carriers)
+  pub upto : IsPlainFor row.upto (listed found.upto)
 
 abbrev pub IsFit : CommandRow → Found → Bool → Type 0
 IsFit row found true = FitsRow row found

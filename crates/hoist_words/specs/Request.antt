@@ -10,7 +10,7 @@ use Rattle.hoist_words.specs.declared.table.CommandName.TheVariants as command
 use Rattle.hoist_words.specs.declared.table.Limits.{Limits}
 use Rattle.hoist_words.specs.declared.numbers.Numbers.{Numbers}
 use Rattle.hoist_words.specs.declared.requests.Request.{Request}
-use Rattle.hoist_words.specs.declared.requests.Request.TheVariants.{Solve, Check, Run, Chart, Drill}
+use Rattle.hoist_words.specs.declared.requests.Request.TheVariants.{Solve, Check, Run, Chart, Drill, Sweep, Margin, Follow, Batch}
 
 -- the words as lists of bytes
 abbrev pub words_of : List (String Global) → List (List ℕ)
@@ -69,9 +69,12 @@ is_workers name = bytes_eq name (codes "workers")
 abbrev pub is_carriers : List ℕ → Bool
 is_carriers name = bytes_eq name (codes "carriers")
 
+abbrev pub is_upto : List ℕ → Bool
+is_upto name = bytes_eq name (codes "upto")
+
 -- the names of all options
 abbrev pub option_names : List (List ℕ)
-option_names = codes "budget" ∷ codes "workers" ∷ codes "carriers" ∷ []
+option_names = codes "budget" ∷ codes "workers" ∷ codes "carriers" ∷ codes "upto" ∷ []
 
 -- the number of an option under its limits; an option that the command doesn't take isn't given, and its number is 0
 abbrev pub IsNumber : Option Limits → List (List ℕ) → ℕ → Type 0
@@ -102,6 +105,7 @@ pub record AsksFor (command : CommandName) (words files : List (List ℕ)) (numb
   pub budget_is : IsNumber (row_of command).budget (values_of is_budget items) numbers.budget
   pub workers_are : IsNumber (row_of command).workers (values_of is_workers items) numbers.workers
   pub carriers_are : IsNumber (row_of command).carriers (values_of is_carriers items) numbers.carriers
+  pub upto_is : IsNumber (row_of command).upto (values_of is_upto items) numbers.upto
 
 -- the words ask for nothing that the program does
 abbrev pub AskNothing : List (List ℕ) → Type 0
@@ -109,7 +113,7 @@ AskNothing words = (command : CommandName) (files : List (List ℕ)) (numbers : 
 
 -- the numbers of a command that takes no options
 abbrev pub no_numbers : Numbers
-no_numbers = record { budget = 0; workers = 0; carriers = 0; seed = 0 }
+no_numbers = record { budget = 0; workers = 0; carriers = 0; upto = 0; seed = 0 }
 
 -- the words ask to solve the line of a file with a budget of splits and so many workers
 abbrev pub AsksSolve : List (List ℕ) → List ℕ → ℕ → ℕ → Type 0
@@ -131,6 +135,23 @@ AsksChart words file answer = AsksFor command.Chart words (file ∷ answer ∷ [
 abbrev pub AsksDrill : List (List ℕ) → ℕ → Type 0
 AsksDrill words seed = AsksFor command.Drill words [] (record no_numbers { seed = seed })
 
+-- the words ask to solve the line of a file with each degree up to this one, with a budget of splits and so many workers
+abbrev pub AsksSweep : List (List ℕ) → List ℕ → ℕ → ℕ → ℕ → Type 0
+AsksSweep words file upto budget workers =
+    AsksFor command.Sweep words (file ∷ []) (record no_numbers { budget = budget; workers = workers; upto = upto })
+
+-- the words ask for the margin of an answer to the line of a file
+abbrev pub AsksMargin : List (List ℕ) → List ℕ → List ℕ → Type 0
+AsksMargin words file answer = AsksFor command.Margin words (file ∷ answer ∷ []) no_numbers
+
+-- the words ask to follow a log of the line of a file
+abbrev pub AsksFollow : List (List ℕ) → List ℕ → List ℕ → Type 0
+AsksFollow words file log = AsksFor command.Follow words (file ∷ log ∷ []) no_numbers
+
+-- the words ask to solve each line of a list with a budget of splits and so many workers
+abbrev pub AsksBatch : List (List ℕ) → List ℕ → ℕ → ℕ → Type 0
+AsksBatch words list budget workers = AsksFor command.Batch words (list ∷ []) (record no_numbers { budget = budget; workers = workers })
+
 -- the command, the files and the numbers of a request
 abbrev pub command_in : Request → CommandName
 command_in (Solve file budget workers) = command.Solve
@@ -138,6 +159,10 @@ command_in (Check file answer) = command.Check
 command_in (Run file answer carriers) = command.Run
 command_in (Chart file answer) = command.Chart
 command_in (Drill seed) = command.Drill
+command_in (Sweep file upto budget workers) = command.Sweep
+command_in (Margin file answer) = command.Margin
+command_in (Follow file log) = command.Follow
+command_in (Batch list budget workers) = command.Batch
 
 abbrev pub files_in : Request → List (List ℕ)
 files_in (Solve file budget workers) = string_bytes file ∷ []
@@ -145,6 +170,10 @@ files_in (Check file answer) = string_bytes file ∷ string_bytes answer ∷ []
 files_in (Run file answer carriers) = string_bytes file ∷ string_bytes answer ∷ []
 files_in (Chart file answer) = string_bytes file ∷ string_bytes answer ∷ []
 files_in (Drill seed) = []
+files_in (Sweep file upto budget workers) = string_bytes file ∷ []
+files_in (Margin file answer) = string_bytes file ∷ string_bytes answer ∷ []
+files_in (Follow file log) = string_bytes file ∷ string_bytes log ∷ []
+files_in (Batch list budget workers) = string_bytes list ∷ []
 
 abbrev pub numbers_in : Request → Numbers
 numbers_in (Solve file budget workers) = record no_numbers { budget = budget; workers = workers }
@@ -152,6 +181,10 @@ numbers_in (Check file answer) = no_numbers
 numbers_in (Run file answer carriers) = record no_numbers { carriers = carriers }
 numbers_in (Chart file answer) = no_numbers
 numbers_in (Drill seed) = record no_numbers { seed = seed }
+numbers_in (Sweep file upto budget workers) = record no_numbers { budget = budget; workers = workers; upto = upto }
+numbers_in (Margin file answer) = no_numbers
+numbers_in (Follow file log) = no_numbers
+numbers_in (Batch list budget workers) = record no_numbers { budget = budget; workers = workers }
 
 -- the request of the words, or that they ask for nothing
 abbrev pub IsRequestOf : List (List ℕ) → Option Request → Type 0

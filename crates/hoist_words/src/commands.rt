@@ -53,7 +53,8 @@ fn definition<'a>(alloc: Global, name: &'a str, row: &CommandRow) -> Result<Comm
     let command = with_argument(command, positional(alloc, "second"), row.files > 1)?;
     let command = with_argument(command, option(alloc, "budget"), row.budget.is_some())?;
     let command = with_argument(command, option(alloc, "workers"), row.workers.is_some())?;
-    with_argument(command, option(alloc, "carriers"), row.carriers.is_some())
+    let command = with_argument(command, option(alloc, "carriers"), row.carriers.is_some())?;
+    with_argument(command, option(alloc, "upto"), row.upto.is_some())
 }
 
 /// The want of memory of which `clap` tells.
@@ -91,6 +92,7 @@ fn numbers_of(row: &CommandRow, matches: &ArgMatches) -> Option<Numbers>
         budget: number_of(row.budget, matches.get_str("budget"))?,
         workers: number_of(row.workers, matches.get_str("workers"))?,
         carriers: number_of(row.carriers, matches.get_str("carriers"))?,
+        upto: number_of(row.upto, matches.get_str("upto"))?,
         seed: seed_of(row.seed, matches.get_str("first").unwrap())?,
     })
 }
@@ -101,6 +103,60 @@ fn word_at(alloc: Global, matches: &ArgMatches, place: &str) -> Result<String, A
     ensures { IfOk result (λ s. first_value (found_of matches.now) place.now ≡ Some (string_bytes s)) }
 {
     String::from_str(alloc, matches.get_str(place).unwrap())
+}
+
+/// The request of what a command reads, with numbers that are within its limits. An error is want of memory.
+fn request_with(
+    alloc: Global,
+    command: CommandName,
+    matches: &ArgMatches,
+    numbers: Numbers,
+) -> Result<Request, AllocError>
+    requires files { (files : List (List ℕ)) × (length files ≡ (row_of command).files)
+        × AreFiles (found_of matches.now) files }
+    requires numbers { AreNumbers (row_of command) (found_of matches.now) numbers }
+    ensures { IfOk result (λ r. IsReadOf command (found_of matches.now) (Some r)) }
+{
+    match command {
+        CommandName::Solve => Ok(Request::Solve {
+            file: word_at(alloc, matches, "first")?,
+            budget: numbers.budget,
+            workers: numbers.workers,
+        }),
+        CommandName::Check => Ok(Request::Check {
+            file: word_at(alloc, matches, "first")?,
+            answer: word_at(alloc, matches, "second")?,
+        }),
+        CommandName::Run => Ok(Request::Run {
+            file: word_at(alloc, matches, "first")?,
+            answer: word_at(alloc, matches, "second")?,
+            carriers: numbers.carriers,
+        }),
+        CommandName::Chart => Ok(Request::Chart {
+            file: word_at(alloc, matches, "first")?,
+            answer: word_at(alloc, matches, "second")?,
+        }),
+        CommandName::Drill => Ok(Request::Drill { seed: numbers.seed }),
+        CommandName::Sweep => Ok(Request::Sweep {
+            file: word_at(alloc, matches, "first")?,
+            upto: numbers.upto,
+            budget: numbers.budget,
+            workers: numbers.workers,
+        }),
+        CommandName::Margin => Ok(Request::Margin {
+            file: word_at(alloc, matches, "first")?,
+            answer: word_at(alloc, matches, "second")?,
+        }),
+        CommandName::Follow => Ok(Request::Follow {
+            file: word_at(alloc, matches, "first")?,
+            log: word_at(alloc, matches, "second")?,
+        }),
+        CommandName::Batch => Ok(Request::Batch {
+            list: word_at(alloc, matches, "first")?,
+            budget: numbers.budget,
+            workers: numbers.workers,
+        }),
+    }
 }
 
 /// The request of what a command reads; None where a value isn't a number within its limits. An error is no memory.
@@ -116,26 +172,6 @@ pub(crate) fn request_of(
     let Some(numbers) = numbers_of(&command.row(), matches) else {
         return Ok(None);
     };
-    let request = match command {
-        CommandName::Solve => Request::Solve {
-            file: word_at(alloc, matches, "first")?,
-            budget: numbers.budget,
-            workers: numbers.workers,
-        },
-        CommandName::Check => Request::Check {
-            file: word_at(alloc, matches, "first")?,
-            answer: word_at(alloc, matches, "second")?,
-        },
-        CommandName::Run => Request::Run {
-            file: word_at(alloc, matches, "first")?,
-            answer: word_at(alloc, matches, "second")?,
-            carriers: numbers.carriers,
-        },
-        CommandName::Chart => Request::Chart {
-            file: word_at(alloc, matches, "first")?,
-            answer: word_at(alloc, matches, "second")?,
-        },
-        CommandName::Drill => Request::Drill { seed: numbers.seed },
-    };
+    let request = request_with(alloc, command, matches, numbers)?;
     Ok(Some(request))
 }

@@ -8,6 +8,7 @@ pub(crate) enum Name {
     Budget,
     Workers,
     Carriers,
+    Upto,
 }
 
 /// What a word is.
@@ -59,7 +60,10 @@ pub(crate) fn form_of<'a>(word: &'a str) -> Form<'a>
     }
     match form_as(word, Name::Budget, "--budget") {
         Form::Other => match form_as(word, Name::Workers, "--workers") {
-            Form::Other => form_as(word, Name::Carriers, "--carriers"),
+            Form::Other => match form_as(word, Name::Carriers, "--carriers") {
+                Form::Other => form_as(word, Name::Upto, "--upto"),
+                form => form,
+            },
             form => form,
         },
         form => form,

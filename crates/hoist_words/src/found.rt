@@ -51,6 +51,7 @@ pub(crate) struct Found<'a> {
     pub(crate) budget: Option<&'a str>,
     pub(crate) workers: Option<&'a str>,
     pub(crate) carriers: Option<&'a str>,
+    pub(crate) upto: Option<&'a str>,
 }
 
 impl<'a> Found<'a> {
@@ -92,6 +93,13 @@ impl<'a> Found<'a> {
                     ..self
                 }),
             },
+            Name::Upto => match self.upto {
+                Some(_) => None,
+                None => Some(Found {
+                    upto: Some(value),
+                    ..self
+                }),
+            },
         }
     }
 
@@ -103,6 +111,7 @@ impl<'a> Found<'a> {
             && is_fit(row.budget, self.budget)
             && is_fit(row.workers, self.workers)
             && is_fit(row.carriers, self.carriers)
+            && is_fit(row.upto, self.upto)
     }
 }
 
@@ -117,6 +126,7 @@ pub(crate) fn found_in<'a>(words: &'a [String]) -> Option<Found<'a>>
             budget: None,
             workers: None,
             carriers: None,
+            upto: None,
         });
     };
     match form_of(word.as_str()) {

@@ -12,6 +12,7 @@ pub(crate) struct Numbers {
     pub(crate) budget: u32,
     pub(crate) workers: u32,
     pub(crate) carriers: u32,
+    pub(crate) upto: u32,
     pub(crate) seed: u32,
 }
 

@@ -7,6 +7,10 @@
 /// - `Run`: run the timetable of that answer with 1 to 1,000 carriers.
 /// - `Chart`: draw the timetable of that answer.
 /// - `Drill`: make the line of `seed` and put it through all of this.
+/// - `Sweep`: answer the line of `file` with each degree from 1 to `upto`, 1 to 4.
+/// - `Margin`: give the margin of the windows of that answer's timetable.
+/// - `Follow`: follow the log in `log` on the machine of the line of `file`.
+/// - `Batch`: answer each line that is named in `list`, with a budget of 0 to 500 splits for each.
 #[derive(Debug, Drop)]
 pub enum Request {
     Solve {
@@ -29,5 +33,24 @@ pub enum Request {
     },
     Drill {
         seed: u32,
+    },
+    Sweep {
+        file: String,
+        upto: u32,
+        budget: u32,
+        workers: u32,
+    },
+    Margin {
+        file: String,
+        answer: String,
+    },
+    Follow {
+        file: String,
+        log: String,
+    },
+    Batch {
+        list: String,
+        budget: u32,
+        workers: u32,
     },
 }

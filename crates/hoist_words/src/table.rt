@@ -10,6 +10,10 @@ pub(crate) enum CommandName {
     Run,
     Chart,
     Drill,
+    Sweep,
+    Margin,
+    Follow,
+    Batch,
 }
 
 /// The least and the greatest number that an option takes, and its number where it isn't given.
@@ -24,7 +28,7 @@ pub(crate) struct Limits {
 ///
 /// - `files`: this many words that are no options, one or two. They are names of files, unless there is a `seed`.
 /// - `seed`: the one such word is a number from 0 to this.
-/// - `budget`, `workers`, `carriers`: an option with these limits; None where the command doesn't take it.
+/// - `budget`, `workers`, `carriers`, `upto`: an option with these limits; None where the command doesn't take it.
 #[derive(Clone, Copy, Debug)]
 pub(crate) struct CommandRow {
     pub(crate) files: usize,
@@ -32,6 +36,7 @@ pub(crate) struct CommandRow {
     pub(crate) budget: Option<Limits>,
     pub(crate) workers: Option<Limits>,
     pub(crate) carriers: Option<Limits>,
+    pub(crate) upto: Option<Limits>,
 }
 
 /// Splits of the search.
@@ -39,6 +44,13 @@ const SPLITS: Limits = Limits {
     least: 0,
     most: 20000,
     default: 20000,
+};
+
+/// Splits of the search of each line of a list.
+const LISTED_SPLITS: Limits = Limits {
+    least: 0,
+    most: 500,
+    default: 400,
 };
 
 /// Threads that search.
@@ -55,6 +67,13 @@ const RUN_CARRIERS: Limits = Limits {
     default: 10,
 };
 
+/// The greatest degree of a sweep.
+const DEGREES: Limits = Limits {
+    least: 1,
+    most: 4,
+    default: 4,
+};
+
 /// The greatest seed of a drill.
 const GREATEST_SEED: u32 = 4_294_967_295;
 
@@ -65,6 +84,7 @@ const TWO_FILES: CommandRow = CommandRow {
     budget: None,
     workers: None,
     carriers: None,
+    upto: None,
 };
 
 impl CommandName {
@@ -79,6 +99,10 @@ impl CommandName {
             "run" => Some(CommandName::Run),
             "chart" => Some(CommandName::Chart),
             "drill" => Some(CommandName::Drill),
+            "sweep" => Some(CommandName::Sweep),
+            "margin" => Some(CommandName::Margin),
+            "follow" => Some(CommandName::Follow),
+            "batch" => Some(CommandName::Batch),
             _ => None,
         }
     }
@@ -94,7 +118,8 @@ impl CommandName {
                 workers: Some(THREADS),
                 ..TWO_FILES
             },
-            CommandName::Check | CommandName::Chart => TWO_FILES,
+            CommandName::Check | CommandName::Chart | CommandName::Margin | CommandName::Follow =>
+                TWO_FILES,
             CommandName::Run => CommandRow {
                 carriers: Some(RUN_CARRIERS),
                 ..TWO_FILES
@@ -102,6 +127,19 @@ impl CommandName {
             CommandName::Drill => CommandRow {
                 files: 1,
                 seed: Some(GREATEST_SEED),
+                ..TWO_FILES
+            },
+            CommandName::Sweep => CommandRow {
+                files: 1,
+                budget: Some(SPLITS),
+                workers: Some(THREADS),
+                upto: Some(DEGREES),
+                ..TWO_FILES
+            },
+            CommandName::Batch => CommandRow {
+                files: 1,
+                budget: Some(LISTED_SPLITS),
+                workers: Some(THREADS),
                 ..TWO_FILES
             },
         }

@@ -39,6 +39,23 @@ fn told(alloc: Global, words: &[&str]) -> Result<String, Fail> {
         ) => format!(in alloc; "run {file} {answer} {carriers}")?,
         Some(Request::Chart { file, answer }) => format!(in alloc; "chart {file} {answer}")?,
         Some(Request::Drill { seed }) => format!(in alloc; "drill {seed}")?,
+        Some(
+            Request::Sweep {
+                file,
+                upto,
+                budget,
+                workers,
+            },
+        ) => format!(in alloc; "sweep {file} {upto} {budget} {workers}")?,
+        Some(Request::Margin { file, answer }) => format!(in alloc; "margin {file} {answer}")?,
+        Some(Request::Follow { file, log }) => format!(in alloc; "follow {file} {log}")?,
+        Some(
+            Request::Batch {
+                list,
+                budget,
+                workers,
+            },
+        ) => format!(in alloc; "batch {list} {budget} {workers}")?,
     };
     Ok(text)
 }
@@ -78,6 +95,27 @@ fn words_that_ask(rt: HostRuntime) -> Result<(), Fail> {
         row(&["hoist", "chart", "f", "a"], "chart f a"),
         row(&["hoist", "drill", "0"], "drill 0"),
         row(&["hoist", "drill", "4294967295"], "drill 4294967295"),
+        row(&["hoist", "sweep", "f"], "sweep f 4 20000 4"),
+        row(&["hoist", "sweep", "--upto=1", "f"], "sweep f 1 20000 4"),
+        row(
+            &[
+                "hoist",
+                "sweep",
+                "--upto",
+                "3",
+                "f",
+                "--budget=7",
+                "--workers=2",
+            ],
+            "sweep f 3 7 2",
+        ),
+        row(&["hoist", "margin", "f", "a"], "margin f a"),
+        row(&["hoist", "follow", "f", "l"], "follow f l"),
+        row(&["hoist", "batch", "l"], "batch l 400 4"),
+        row(
+            &["hoist", "batch", "--budget", "500", "l", "--workers=64"],
+            "batch l 500 64",
+        ),
     ];
     for i in 0..rows.len() {
         let text = told(rt.alloc(), rows[i].words)?;
@@ -164,6 +202,12 @@ fn options_that_are_refused(rt: HostRuntime) -> Result<(), Fail> {
             "nothing",
         ),
         row(&["hoist", "run", "f", "a", "--workers=2"], "nothing"),
+        row(&["hoist", "sweep", "f", "--upto", "0"], "nothing"),
+        row(&["hoist", "sweep", "f", "--upto=5"], "nothing"),
+        row(&["hoist", "solve", "f", "--upto=2"], "nothing"),
+        row(&["hoist", "batch", "l", "--budget=501"], "nothing"),
+        row(&["hoist", "margin", "f", "a", "--budget=5"], "nothing"),
+        row(&["hoist", "follow", "f"], "nothing"),
     ];
     for i in 0..rows.len() {
         let text = told(rt.alloc(), rows[i].words)?;

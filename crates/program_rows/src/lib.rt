@@ -8,6 +8,8 @@ mod checks;
 #[cfg(test)]
 mod edges;
 #[cfg(test)]
+mod further;
+#[cfg(test)]
 mod lines;
 #[cfg(test)]
 mod pictures;

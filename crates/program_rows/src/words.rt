@@ -43,6 +43,10 @@ usage: hoist solve FILE [--budget N] [--workers N]
        hoist run FILE ANSWER [--carriers N]
        hoist chart FILE ANSWER
        hoist drill SEED
+       hoist sweep FILE [--upto N] [--budget N] [--workers N]
+       hoist margin FILE ANSWER
+       hoist follow FILE LOG
+       hoist batch LIST [--budget N] [--workers N]
 ";
 
 #[test]
@@ -69,6 +73,10 @@ fn other_words_show_the_usage(rt: HostRuntime) -> Result<(), Fail> {
         "hoist drill -1",
         "hoist drill 01",
         "hoist drill 4294967296",
+        "hoist sweep line --upto 5",
+        "hoist margin line",
+        "hoist follow line answer --budget 5",
+        "hoist batch line --budget 501",
     ];
     for i in 0..commands.len() {
         let command = commands[i];

@@ -5,7 +5,7 @@ use Rattle.hoist_cli.specs.declared.replies.Stop.{Stop}
 use Rattle.hoist_cli.specs.declared.status.Status.{Status}
 use Rattle.hoist_cli.specs.declared.status.Status.TheVariants.{Done}
 use Rattle.hoist_cli.specs.Reading.{reading}
-use Rattle.hoist_cli.specs.Reply.{AfterLegal, TimetableReply, chart_of}
+use Rattle.hoist_cli.specs.Reply.{AfterLegal, TimetableReply, IsChartOf}
 use Rattle.hoist_cli.specs.Stops.{Gives}
 use Rattle.hoist_cli.proofs.Narrowing.{refused_by, rejected_still}
 use Rattle.hoist_cli.proofs.drawing.chart_file.Goals as goal
@@ -17,9 +17,9 @@ returns-in_err-timetable g c =
     let t = c.in_ok-line.answer.timetable in
     let stop = c.in_err-timetable.field-0.0 in
     let stopped : c.from_residual-in_err-timetable.result ≡ Err stop = search rules in
-    let Next : TimetableData → Status → List ℕ → Type 0 = λ d status text. (status ≡ Done) × (text ≡ chart_of l d) in
-    subst (λ (x : Result Reply Stop). Gives (TimetableReply r c.args.file.now c.args.answer.now chart_of) x) (sym stopped)
-    (refused_by (AfterLegal l (λ _ _ _. ⊥) t) (TimetableReply r c.args.file.now c.args.answer.now chart_of) stop
+    let Next : TimetableData → Status → List ℕ → Type 0 = λ d status text. (status ≡ Done) × IsChartOf l d text in
+    subst (λ (x : Result Reply Stop). Gives (TimetableReply r c.args.file.now c.args.answer.now IsChartOf) x) (sym stopped)
+    (refused_by (AfterLegal l (λ _ _ _. ⊥) t) (TimetableReply r c.args.file.now c.args.answer.now IsChartOf) stop
     (λ status text is. inr (l, c.in_ok-line.ensures.line, inr (c.in_ok-line.answer, c.in_ok-line.ensures.answer, rejected_still l Next t status text is)))
     c.in_err-timetable.ensures.refused)
 

@@ -1,4 +1,4 @@
-use Rattle.std.proofs.Common.{rules, ◌≡◌, ◌∙◌, inl, sym, subst, refl, codes, Some, None, Option}
+use Rattle.std.proofs.Common.{rules, ◌≡◌, ◌∙◌, inl, sym, subst, refl, codes, None, Option}
 use Rattle.timetable.specs.TimetableData.{TimetableData}
 use Rattle.hoist_cli.specs.declared.status.Status.TheVariants.{Negative}
 use Rattle.hoist_cli.specs.Reading.{IsLineOf}

@@ -1,7 +1,7 @@
-use Rattle.std.proofs.Common.{rules, ◌≡◌, inr, List, ℕ, Some}
+use Rattle.std.proofs.Common.{rules, ◌≡◌, inr, Some}
 use Rattle.outside.specs.Sink.{appended}
 use Rattle.hoist_words.specs.Request.{words_of}
-use Rattle.hoist_cli.specs.declared.status.Status.TheVariants.{Done, Negative, Words}
+use Rattle.hoist_cli.specs.declared.status.Status.TheVariants.{Done, Negative, Unfinished, Words}
 use Rattle.hoist_cli.specs.Reading.{reading}
 use Rattle.hoist_cli.specs.Reply.{IsReply}
 use Rattle.hoist_cli.specs.Stops.{settled_of}
@@ -30,6 +30,17 @@ returns-in-Whole-clause-negative g c =
     let written : g.K.Sink.written c.write_all.new.sink ≡ appended (g.K.Sink.written c.args.sink.now) reply.text.items =
     search (rules, c.in-Whole.ensures.whole, c.as_slice.ensures.value) in
     means_by r words (g.K.Sink.written c.args.sink.now) (g.K.Sink.written c.write_all.new.sink) reply.status Negative reply.text.items written right
+
+pub returns-in-Whole-clause-unfinished : goal.returns-in-Whole-clause-unfinished
+returns-in-Whole-clause-unfinished g c =
+    let r = reading (g.F.Shelf.files c.args.shelf.now) (g.F.Shelf.faults c.args.shelf.now) (g.F.Shelf.faults c.reply_to.new.shelf) in
+    let words = words_of c.args.words.now in
+    let reply = c.in-Some.reply in
+    let settled : settled_of c.reply_to.result ≡ Some reply = search rules in
+    let right : IsReply r words reply.status reply.text.items = settled_is (IsReply r words) c.reply_to.result reply c.reply_to.ensures settled in
+    let written : g.K.Sink.written c.write_all.new.sink ≡ appended (g.K.Sink.written c.args.sink.now) reply.text.items =
+    search (rules, c.in-Whole.ensures.whole, c.as_slice.ensures.value) in
+    means_by r words (g.K.Sink.written c.args.sink.now) (g.K.Sink.written c.write_all.new.sink) reply.status Unfinished reply.text.items written right
 
 pub returns-in-Whole-clause-words : goal.returns-in-Whole-clause-words
 returns-in-Whole-clause-words g c =

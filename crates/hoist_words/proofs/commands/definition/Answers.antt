@@ -16,7 +16,10 @@ returns c =
     let fourth = c.in_ok-command-4.ensures
     ∙ ap (λ b. with_rule_if b (rule_of c.option-2.result) (app_of c.in_ok-command-3.command)) c.is_some-2.ensures
     ∙ ap₂ (with_rule_if (is_some row.workers)) c.option-2.ensures.rule third in
-    IfOk-weaker c.with_argument-4.result _ _
-    (λ r is. is ∙ ap (λ b. with_rule_if b (rule_of c.option-3.result) (app_of c.in_ok-command-4.command)) c.is_some-3.ensures
-    ∙ ap₂ (with_rule_if (is_some row.carriers)) c.option-3.ensures.rule fourth)
-    c.with_argument-4.ensures
+    let fifth = c.in_ok-command-5.ensures
+    ∙ ap (λ b. with_rule_if b (rule_of c.option-3.result) (app_of c.in_ok-command-4.command)) c.is_some-3.ensures
+    ∙ ap₂ (with_rule_if (is_some row.carriers)) c.option-3.ensures.rule fourth in
+    IfOk-weaker c.with_argument-5.result _ _
+    (λ r is. is ∙ ap (λ b. with_rule_if b (rule_of c.option-4.result) (app_of c.in_ok-command-5.command)) c.is_some-4.ensures
+    ∙ ap₂ (with_rule_if (is_some row.upto)) c.option-4.ensures.rule fifth)
+    c.with_argument-5.ensures
