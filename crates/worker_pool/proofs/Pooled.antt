@@ -1,13 +1,13 @@
 -- What the workers keep is the answers of the jobs, and their shares add up.
-use Rattle.std.proofs.Common.{◌≡◌, ℕ, zero, suc, ◌+◌, ◌-◌, ◌*◌, ◌<◌, ◌≤◌, ◌==◌, ◌⊎◌, ◌||◌, List, [], ◌∷◌, ◌++◌, length, map, get_or, replicate, fold, set, nat_lt, count_by, slice_get, cond, refl, sym, ap, ◌∙◌, subst, arith, Bool, true, false, inl, inr, ⊎_elim, zero-add, suc-mul, All, Option, Some, None, option_map, IsSome, Result, Ok, Err, IfOk, IsOkAnd}
-use Rattle.std.proofs.lemmas.List.{map-append, length-set, length-map, length-replicate}
-use Rattle.std.proofs.lemmas.List.Elements.{All-push, All-append}
+use Rattle.std.proofs.Common.{◌≡◌, ℕ, zero, suc, ◌+◌, ◌-◌, ◌*◌, ◌<◌, ◌≤◌, ◌==◌, ◌⊎◌, ◌||◌, List, [], ◌∷◌, ◌++◌, length, map, get_or, take, drop, replicate, fold, set, nat_lt, count_by, slice_get, cond, refl, sym, ap, ◌∙◌, subst, arith, Bool, true, false, inl, inr, ⊎_elim, zero-add, suc-mul, All, Option, Some, None, option_map, IsSome, Result, Ok, Err, IfOk, IsOkAnd}
+use Rattle.std.proofs.lemmas.List.{map-append, length-append, length-drop, take-append-drop, length-set, length-map, length-replicate}
+use Rattle.std.proofs.lemmas.List.Elements.{All-push, All-append, All-drop}
 use Rattle.std.proofs.lemmas.List.Sums.{sum_by-cons}
 use Rattle.std.proofs.lemmas.Option.{same_Some, none-some, slice_get-map, slice_get_within, slice_get-get_or}
 use Rattle.claim_board.specs.Tidy.{times, once_below, EachOnceBelow}
 use Rattle.claim_board.specs.Seats.{BoardData, SeatData, HasAll, all_claims, joined_seat}
 use Rattle.claim_board.proofs.Counts.{times-snoc}
-use Rattle.worker_pool.specs.Pool.{AnswersAt, Keeps, Done, placed}
+use Rattle.worker_pool.specs.Pool.{AnswersAt, Keeps, Done, Serve, placed}
 
 pub share-sum : (a b n : ℕ) → (a + b) * n ≡ a * n + b * n
 share-sum zero b n = let e : (0 + b) * n ≡ b * n = ap (λ k. k * n) (zero-add b) in omega (arith, e)
@@ -15,6 +15,11 @@ share-sum (suc a) b n =
     let same : suc a + b ≡ suc (a + b) = omega arith in
     let e : (suc a + b) * n ≡ suc (a + b) * n = ap (λ k. k * n) same in
     omega (arith, e, suc-mul (a + b) n, suc-mul a n, share-sum a b n)
+
+-- a list that was cut in two
+pub cut_in_two : {A : Type 0} (n : ℕ) (all first second : List A) → first ≡ take n all → second ≡ drop n all → length first + length second ≡ length all
+cut_in_two n all first second e f =
+    let both : first ++ second ≡ take n all ++ drop n all = λ k. e k ++ f k in sym (length-append first second) ∙ ap length both ∙ ap length (take-append-drop n all)
 
 -- a list of different numbers below n is no longer than n
 count-step : (m : ℕ) (xs : List ℕ) → count_by (λ y. nat_lt y (suc m)) xs ≡ count_by (λ y. nat_lt y m) xs + times m xs
@@ -88,21 +93,42 @@ module _ {J A : Type 0} (Answers : J → A → Type 0) (jobs : List J) where
       (ap (λ b. b || other.read_end) k.0, keeps_both seat.list other.list ks ls k.1 l.1)
 
   -- the two parts of the workers, where neither had an error
-  pub joined_done : {V E : Type 0} (items : V → List (ℕ × A)) (seat other after : SeatData) (mine theirs all : Result V E)
+  pub joined_done : {V E R : Type 0} (items : V → List (ℕ × A)) (rooms : V → List R) (seat other after : SeatData) (mine theirs all : Result V E)
       → after ≡ joined_seat seat other
-      → IfOk all (λ ms. IsOkAnd mine (λ ks. IsOkAnd theirs (λ ls. items ms ≡ items ks ++ items ls)))
+      → IfOk all (λ ms. IsOkAnd mine (λ ks. IsOkAnd theirs (λ ls. (items ms ≡ items ks ++ items ls) × (rooms ms ≡ rooms ks ++ rooms ls))))
       → IfOk mine (λ ks. Done Answers jobs seat (items ks)) → IfOk theirs (λ ls. Done Answers jobs other (items ls))
       → IfOk all (λ ms. Done Answers jobs after (items ms))
-  joined_done items seat other after (Ok ks) (Ok ls) (Ok ms) joined is k l =
-      subst (Done Answers jobs after) (sym is)
+  joined_done items rooms seat other after (Ok ks) (Ok ls) (Ok ms) joined is k l =
+      subst (Done Answers jobs after) (sym is.0)
       (subst (λ s. Done Answers jobs s (items ks ++ items ls)) (sym joined) (done_both seat other (items ks) (items ls) k l))
-  joined_done items seat other after (Ok ks) (Err e) (Ok ms) joined is k l = absurd is
-  joined_done items seat other after (Err e) theirs (Ok ms) joined is k l = absurd is
-  joined_done items seat other after mine theirs (Err e) joined is k l = tt
+  joined_done items rooms seat other after (Ok ks) (Err e) (Ok ms) joined is k l = absurd is
+  joined_done items rooms seat other after (Err e) theirs (Ok ms) joined is k l = absurd is
+  joined_done items rooms seat other after mine theirs (Err e) joined is k l = tt
 
   pub numbers_below : (list : List ℕ) (kept : List (ℕ × A)) → Keeps Answers jobs list kept
       → All (λ (p : ℕ × A). p.0 < length jobs) kept
   numbers_below list kept k j d h = let (job, read, holds) = k.1 j d h in slice_get_within jobs _ job read
+
+-- the last rooms of a list
+pub tail_serves : {V E R : Type 0} (Serves : R → Type 0) (items : V → List R) (at count : ℕ) (all : List R) (r : Result V E) → at + count ≡ length all → All Serves all
+    → IfOk r (λ v. items v ≡ drop at all) → IfOk r (λ v. Serve Serves count (items v))
+tail_serves Serves items at count all (Ok v) sum serve is =
+    subst (Serve Serves count) (sym is) (omega (arith, length-drop at all, sum), All-drop Serves at all serve)
+tail_serves Serves items at count all (Err e) sum serve is = tt
+
+-- the rooms of two parts of the workers, where neither had an error
+pub joined_rooms : {V E T R : Type 0} (Serves : R → Type 0) (items : V → List T) (rooms : V → List R) (m n : ℕ) (mine theirs all : Result V E)
+    → IfOk all (λ ms. IsOkAnd mine (λ ks. IsOkAnd theirs (λ ls. (items ms ≡ items ks ++ items ls) × (rooms ms ≡ rooms ks ++ rooms ls))))
+    → IfOk mine (λ ks. Serve Serves m (rooms ks)) → IfOk theirs (λ ls. Serve Serves n (rooms ls))
+    → IfOk all (λ ms. Serve Serves (m + n) (rooms ms))
+joined_rooms Serves items rooms m n (Ok ks) (Ok ls) (Ok ms) is k l =
+    subst (Serve Serves (m + n)) (sym is.1) (
+      omega (arith, length-append (rooms ks) (rooms ls), k.0, l.0),
+      All-append Serves (rooms ks) (rooms ls) k.1 l.1,
+    )
+joined_rooms Serves items rooms m n (Ok ks) (Err e) (Ok ms) is k l = absurd is
+joined_rooms Serves items rooms m n (Err e) theirs (Ok ms) is k l = absurd is
+joined_rooms Serves items rooms m n mine theirs (Err e) is k l = tt
 
 module _ {A : Type 0} where
   -- lists read by `slice_get`

@@ -22,6 +22,10 @@ module _ {J A : Type 0} (Answers : J → A → Type 0) (jobs : List J) where
   AreAnswers outs =
       (length outs ≡ length jobs) × ((i : ℕ) (out : A) → slice_get outs i ≡ Some out → AnswersAt i out)
 
+-- so many rooms, each of which serves
+abbrev pub Serve : {R : Type 0} → (R → Type 0) → ℕ → List R → Type 0
+Serve Serves count rooms = (length rooms ≡ count) × All Serves rooms
+
 module _ {A : Type 0} where
   -- so many places, after each answer was written at its number
   abbrev pub placed : ℕ → List (ℕ × A) → List (Option A)

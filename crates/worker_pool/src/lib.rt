@@ -8,7 +8,7 @@ mod round;
 mod work;
 mod worker;
 
-pub use round::run;
+pub use round::{run, run_in};
 pub use work::Work;
 
 #[cfg(test)]

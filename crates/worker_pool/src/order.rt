@@ -5,17 +5,19 @@ ghost use Rattle.worker_pool.specs.Pool.{placed};
 
 use std::alloc::{AllocError, Global};
 
-/// The items of both, where neither is an error.
-pub fn both<T: Drop>(
-    first: Result<Vec<T>, AllocError>,
-    second: Result<Vec<T>, AllocError>,
-) -> Result<Vec<T>, AllocError>
-    ensures { IfOk result (λ all. IsOkAnd first (λ a. IsOkAnd second (λ b. all.items ≡ a.items ++ b.items))) }
+/// What two parts of some workers have, each in two lists, where neither is an error.
+pub fn both<T: Drop, R: Drop>(
+    first: Result<(Vec<T>, Vec<R>), AllocError>,
+    second: Result<(Vec<T>, Vec<R>), AllocError>,
+) -> Result<(Vec<T>, Vec<R>), AllocError>
+    ensures { IfOk result (λ all. IsOkAnd first (λ a. IsOkAnd second (λ b.
+        (all.0.items ≡ a.0.items ++ b.0.items) × (all.1.items ≡ a.1.items ++ b.1.items)))) }
 {
-    let mut all = first?;
-    let mut rest = second?;
-    all.append(&mut rest)?;
-    Ok(all)
+    let (mut kept, mut rooms) = first?;
+    let (mut more, mut others) = second?;
+    kept.append(&mut more)?;
+    rooms.append(&mut others)?;
+    Ok((kept, rooms))
 }
 
 /// `count` places, each with the answer that was kept under its number.

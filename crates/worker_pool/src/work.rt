@@ -6,7 +6,7 @@ use std::alloc::{AllocError, Global};
 
 /// A kind of work: each job that it takes has one answer.
 ///
-/// Each worker makes a room, and lends it to every call of `answer`. What a room holds is memory that serves again: the
+/// Each worker has a room, and lends it to every call of `answer`. What a room holds is memory that serves again: the
 /// answers don't depend on it.
 pub trait Work: Sync {
     /// What is answered.

@@ -1,11 +1,11 @@
-use Rattle.std.proofs.Common.{◌+◌, ◌*◌}
+use Rattle.std.proofs.Common.{◌+◌, ◌*◌, length}
 use Rattle.worker_pool.proofs.round.+fn-share_out-join+arg2+fn-share_out-join+arg3+share_out.Given as goal
 
 abbrev pub decreases-join+arg2 : goal.decreases-join+arg2
-decreases-join+arg2 g l = 2 * l.rest + 1
+decreases-join+arg2 g l = 2 * length l.rooms.items + 1
 
 abbrev pub decreases-join+arg3 : goal.decreases-join+arg3
-decreases-join+arg3 g l = 2 * l.half + 1
+decreases-join+arg3 g l = 2 * length l.others.items + 1
 
 abbrev pub decreases-share_out : goal.decreases-share_out
-decreases-share_out g l = 2 * l.workers
+decreases-share_out g l = 2 * length l.rooms.items
