@@ -10,8 +10,8 @@ use std::sync::atomic::{AtomicBool, AtomicU64, Ordering};
 use std::test::Fail;
 use std::thread::Threads;
 use worked_lines::{
-    Numbers, Row, far_tank, line_of_rows, one_bath, one_station, slow_choice, two_baths,
-    two_hoists, two_stations,
+    Numbers, Row, far_tank, line_of_rows, one_bath, one_station, slow_choice, thirteen_stages,
+    two_baths, two_hoists, two_stations,
 };
 
 // The best's period, the splits, the paths left and the bound.
@@ -212,6 +212,10 @@ fn workers_agree(rt: HostRuntime) -> Result<(), Fail> {
     assert!(rt;
         do_workers_agree(&rt, alloc, slow_choice(alloc))?,
         "two tanks far apart"
+    );
+    assert!(rt;
+        do_workers_agree(&rt, alloc, thirteen_stages(alloc))?,
+        "rounds of 64 paths"
     );
     Ok(())
 }

@@ -16,19 +16,24 @@ use path_constraints::base_of;
 use std::alloc::{AllocError, Global};
 use std::marker::Model;
 use std::thread::Threads;
-use worker_pool::run;
+use worker_pool::run_in;
+
+/// A third worker and each further one has to have so many paths: the start of a thread costs as much as some of them.
+const SHARE: usize = 8;
 
 /// 1 to 64 workers of one line, seen as that line. `base` is the line's system before any decision. Where one worker is
-/// enough for a round, that is `expander`, and no thread is started.
+/// enough for a round, that is `expander`, and no thread is started. Else each worker has one of the `rooms`, which are
+/// made when a round first lacks them, and serve all rounds after it.
 #[derive(Drop)]
 pub(crate) struct Workers {
     most: u32,
     base: System,
     expander: Expander,
+    rooms: Vec<Expander>,
 }
 
 impl Model for Workers {
-    ghost use Rattle.std.specs.Prelude.{◌≡◌, ◌≤◌, []};
+    ghost use Rattle.std.specs.Prelude.{◌≡◌, ◌≤◌, [], All};
     ghost use Rattle.hoist_base.specs.LineData.{LineData};
     ghost use Rattle.path_constraints.specs.Places.{system_below};
 
@@ -36,25 +41,29 @@ impl Model for Workers {
 
     ghost view = { λ w. w.expander };
 
-    ghost invariant = { λ w. (w.base ≡ system_below w.expander []) × (1 ≤ w.most) × (w.most ≤ 64) };
+    ghost invariant = { λ w. (w.base ≡ system_below w.expander []) × (1 ≤ w.most) × (w.most ≤ 64)
+        × All (λ room. room ≡ w.expander) w.rooms.items };
 }
 
-// The expansions of some paths, in the order of the paths, by workers at a board of their own.
+// The expansions of some paths, in the order of the paths, by workers at a board of their own, in rooms of the line.
 fn expand_at_once<R: Threads + Sync, G: Gate>(
     rt: &R,
     alloc: Global,
     work: &Expanding<'_>,
     paths: &[Path],
     workers: u32,
+    rooms: &mut Vec<Expander>,
     gate: &G,
 ) -> Result<Vec<Expanded>, AllocError>
     requires workers { (1 ≤ workers) × (workers ≤ 64) }
     requires few { length paths.now < 2 ^ 32 }
     requires can { All (λ path. CanExpand work.now.line.now path work.now.cap) paths.now }
-    ensures { IfOk result (λ xs. AreAnswersOf (λ path x. IsShown work.now.line.now path work.now.cap x) paths.now xs.items) }
+    requires rooms { All (λ room. room ≡ work.now.line.now) rooms.old.items }
+    ensures answers { IfOk result (λ xs. AreAnswersOf (λ path x. IsShown work.now.line.now path work.now.cap x) paths.now xs.items) }
+    ensures rooms { All (λ room. room ≡ work.now.line.now) rooms.new.items }
 {
     let (board, mut seat) = Board::new(alloc, paths.len() as u32, workers)?;
-    let expansions = run(rt, alloc, &board, &mut seat, work, paths, workers, gate);
+    let expansions = run_in(rt, alloc, &board, &mut seat, work, paths, workers, rooms, gate);
     board.close(seat);
     expansions
 }
@@ -71,11 +80,13 @@ impl Workers {
             most,
             base,
             expander,
+            rooms: Vec::new(alloc),
         })
     }
 
     /// The expansions of the first paths, in the order of the paths, under the cap of this moment. There are no more
-    /// workers than paths. Each path passes the gate by its number within the round.
+    /// workers than paths, and beyond two no more than one for each `SHARE` paths. Each path passes the gate by its
+    /// number within the round.
     pub(crate) fn expand_first<R: Threads + Sync, G: Gate>(
         &mut self,
         rt: &R,
@@ -94,7 +105,8 @@ impl Workers {
         ensures answers { IfOk result (λ xs. AreAnswers line.now search.now xs.items) }
         ensures valid { IsLine line.now }
     {
-        let workers = (self.most as usize).min(count) as u32;
+        let enough = count.min((count / SHARE).max(2));
+        let workers = (self.most as usize).min(enough) as u32;
         if workers <= 1 {
             return search.expand_in_turn(alloc, line, &mut self.expander, count, gate);
         }
@@ -105,6 +117,7 @@ impl Workers {
             base: &self.base,
             cap,
         };
-        expand_at_once(rt, alloc, &work, paths.as_slice(), workers, gate)
+        let rooms = &mut self.rooms;
+        expand_at_once(rt, alloc, &work, paths.as_slice(), workers, rooms, gate)
     }
 }

@@ -20,4 +20,4 @@ expand_at_once-requires-clause-can g c lives within =
 pub returns-clause-answers : goal.returns-clause-answers
 returns-clause-answers g c =
     answers_if_ok vec_items c.args.line.now c.args.search.now c.cap-cap.result c.in_ok-paths.paths.items c.as_slice.result.now c.expand_at_once.result
-    c.as_slice.ensures.value c.cap-cap.ensures.value c.in_ok-paths.ensures.leads c.expand_at_once.ensures
+    c.as_slice.ensures.value c.cap-cap.ensures.value c.in_ok-paths.ensures.leads c.expand_at_once.ensures.answers
