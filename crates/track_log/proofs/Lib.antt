@@ -6,3 +6,6 @@ pub mod LogRead
 pub mod Walked
 pub mod Spaced
 pub mod Finish
+pub mod Recorded
+pub mod Sooner
+pub mod RunTanks

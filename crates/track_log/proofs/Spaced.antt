@@ -1,7 +1,7 @@
--- Positions where nothing is wrong are spaced.
-use Rattle.std.proofs.Common.{◌≡◌, ℕ, ◌+◌, ◌-◌, ◌≤◌, None, Some, Bool, true, false, cond, List, length, All, Result, Ok, subst, arith, refl}
+-- Positions are spaced exactly where nothing is wrong with them.
+use Rattle.std.proofs.Common.{◌≡◌, ℕ, zero, suc, ◌+◌, ◌-◌, ◌≤◌, ◌<◌, Option, None, Some, Bool, true, false, cond, List, length, All, Result, Ok, ap, subst, ◌∙◌, arith, refl}
 use Rattle.std.specs.Prelude.{nat_lt}
-use Rattle.std.proofs.lemmas.Bool.{ltb-false}
+use Rattle.std.proofs.lemmas.Bool.{ltb-false, le-ltb}
 use Rattle.std.proofs.lemmas.List.Elements.{All-from_recursion}
 use Rattle.hoist_base.specs.LineData.{LineData}
 use Rattle.tick_machine.specs.declared.breach.Breach.{Breach}
@@ -10,7 +10,7 @@ use Rattle.tick_machine.specs.declared.order.Order.{Order}
 use Rattle.tick_machine.specs.Layout.{Layout}
 use Rattle.tick_machine.specs.Rules.{AreApart}
 use Rattle.tick_machine.specs.Scene.{IsSizedOrder}
-use Rattle.tick_machine.specs.Step.{first}
+use Rattle.tick_machine.specs.Step.{or_else, first}
 use Rattle.tick_machine.proofs.Passes.{or_else_parts, first_pass}
 use Rattle.field_reading.specs.Reads.{IsRead, Reads, Any}
 use Rattle.track_log.specs.Logs.{most_position, tick_text}
@@ -35,6 +35,20 @@ are_apart l at e =
           (first_pass (l.hoists - 1) (close l at) h p.1 (omega (arith, lt))) in
           omega (arith, ltb-false (at (h + 1)) (at h + l.gap) no);
     }
+
+-- where no number has a breach, there is no first one
+none_first : (n : ℕ) (test : ℕ → Option Breach) → ((h : ℕ) → h < n → test h ≡ None) → first n test ≡ None
+none_first zero test none = refl
+none_first (suc n) test none =
+    ap (λ (b : Option Breach). or_else b (test n)) (none_first n test (λ h lt. none h (omega arith))) ∙ none n (omega arith)
+
+pub no_unspaced : (l : Layout) (at : ℕ → ℕ) → AreApart l at → unspaced l at ≡ None
+no_unspaced l at apart =
+    ap (λ (b : Option Breach). or_else b (first (l.hoists - 1) (close l at)))
+    (none_first l.hoists (above l at) (λ h lt. ap (λ (b : Bool). cond b (Some (Edge h (at h))) None) (le-ltb l.track (at h) (apart.within h lt))))
+    ∙ none_first (l.hoists - 1) (close l at) (λ h lt.
+    let up : h + 1 < l.hoists = omega (arith, lt) in
+    ap (λ (b : Bool). cond b (Some (Near h (at h) (at (h + 1)))) None) (le-ltb (at (h + 1)) (at h + l.gap) (apart.gap h up)))
 
 -- ---- what was read fits the line
 

@@ -1,5 +1,6 @@
 pub mod Logs
 pub mod Following
+pub mod Recording
 pub mod Reading
 pub mod Texts
 pub mod Laws

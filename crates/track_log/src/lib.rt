@@ -1,10 +1,13 @@
-//! Logs of what the control of a line did, tick by tick, and how far the tick machine follows them.
+//! Logs of what the control of a line did, tick by tick: how far the tick machine follows them, and how they are written.
 #![tactic(auto)]
 
 mod fields;
 mod followed;
 pub mod laws;
 mod positions;
+mod recording;
+#[cfg(test)]
+mod recordings;
 #[cfg(test)]
 mod tests;
 mod text;
@@ -12,4 +15,5 @@ mod ticks;
 mod walk;
 
 pub use followed::{Followed, follow};
+pub use recording::write_log;
 pub use text::followed_text;

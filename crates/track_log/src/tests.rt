@@ -1,4 +1,5 @@
 // Logs by hand: what is said of them, and where they break.
+ghost use Rattle.std.specs.Prelude.{◌<◌, length};
 
 use crate::{follow, followed_text};
 use hoist_base::Line;
@@ -222,6 +223,36 @@ fn breaks_at_ends(alloc: Global, line: Option<Line>, text: &str) -> Result<bool,
 fn fronts_break_at_their_ends(rt: HostRuntime) -> Result<(), Fail> {
     let alloc = rt.alloc();
     assert!(rt; breaks_at_ends(alloc, two_hoists(alloc), ALL_WORDS)?);
+    Ok(())
+}
+
+/// Where the bytes break on the line once byte number `i` is one that stands in no log.
+fn broken_by(alloc: Global, line: &Line, bytes: &[u8], i: usize) -> Result<Option<u64>, AllocError>
+    requires { i < length bytes.now }
+{
+    let mut changed = Vec::from_slice(alloc, bytes)?;
+    changed[i] = b'#';
+    broken_at(alloc, line, changed.as_slice())
+}
+
+/// Whether each such change breaks the text at its own byte.
+fn breaks_at_changes(alloc: Global, line: Option<Line>, text: &str) -> Result<bool, AllocError> {
+    let Some(line) = line else {
+        return Ok(false);
+    };
+    let bytes = text.as_bytes();
+    for i in 0..bytes.len() {
+        if broken_by(alloc, &line, bytes, i)? != Some(i as u64) {
+            return Ok(false);
+        }
+    }
+    Ok(true)
+}
+
+#[test]
+fn changes_break_at_their_bytes(rt: HostRuntime) -> Result<(), Fail> {
+    let alloc = rt.alloc();
+    assert!(rt; breaks_at_changes(alloc, two_hoists(alloc), ALL_WORDS)?);
     Ok(())
 }
 
