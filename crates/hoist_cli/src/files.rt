@@ -18,7 +18,7 @@ use std::alloc::Global;
 pub(crate) const LINE_LIMIT: u64 = 65_536;
 
 /// The most bytes that an answer file and a log have.
-pub(crate) const ANSWER_LIMIT: u64 = 1 << 30;
+pub const ANSWER_LIMIT: u64 = 1 << 30;
 
 /// The bytes of the file of this name, where it has at most `limit`.
 pub(crate) fn fetch<F: Shelf>(
@@ -50,8 +50,8 @@ pub(crate) fn fetch<F: Shelf>(
     }
 }
 
-/// The line of the file of this name.
-pub(crate) fn line_in<F: Shelf>(alloc: Global, file: &str, shelf: &mut F) -> Result<Line, Stop>
+/// The line of the file of this name; else the stop that says why there is none.
+pub fn line_in<F: Shelf>(alloc: Global, file: &str, shelf: &mut F) -> Result<Line, Stop>
     ensures line { IfOk result (λ l. IsLineIn (F.files shelf.old) file.now l) }
     ensures refused { IfErr result (Refuses (IsLineStop (reading (F.files shelf.old) (F.faults shelf.old) (F.faults shelf.new)) file.now)) }
     ensures same { F.files shelf.new ≡ F.files shelf.old }

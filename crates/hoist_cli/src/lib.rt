@@ -14,5 +14,8 @@ mod status;
 mod sweeping;
 mod top;
 
+pub use files::{ANSWER_LIMIT, line_in};
+pub use replies::{Reply, Stop, settled};
+pub use solving::status_on;
 pub use status::Status;
 pub use top::hoist;

@@ -9,14 +9,14 @@ use std::alloc::{AllocError, Global};
 
 /// The text that is to be printed, and the status that the program ends with once it is printed.
 #[derive(Debug, Drop)]
-pub(crate) struct Reply {
-    pub(crate) status: Status,
-    pub(crate) text: Vec<u8>,
+pub struct Reply {
+    pub status: Status,
+    pub text: Vec<u8>,
 }
 
 /// Why there is nothing more to do: a reply that refuses, or want of memory.
 #[derive(Debug, Drop)]
-pub(crate) enum Stop {
+pub enum Stop {
     Refused(Reply),
     Memory,
 }
@@ -75,7 +75,7 @@ pub(crate) fn refusal(alloc: Global, status: Status, word: &[u8], about: &[u8]) 
 }
 
 /// The reply, whether a command stopped with it or not; None for want of memory.
-pub(crate) fn settled(replied: Result<Reply, Stop>) -> Option<Reply>
+pub fn settled(replied: Result<Reply, Stop>) -> Option<Reply>
     ensures { result ≡ settled_of replied }
 {
     match replied {

@@ -15,7 +15,7 @@ use std::alloc::{AllocError, Global};
 use std::thread::Threads;
 
 /// The status of an answer's verdict.
-fn status_on(verdict: Verdict) -> Status
+pub fn status_on(verdict: Verdict) -> Status
     ensures { result ≡ status_of verdict }
 {
     match verdict {

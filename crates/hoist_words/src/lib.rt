@@ -12,5 +12,6 @@ mod table;
 mod tests;
 mod words;
 
+pub use numbers::number_within;
 pub use requests::Request;
 pub use words::read_words;

@@ -45,7 +45,7 @@ pub(crate) fn seed_of(greatest: Option<u32>, word: &str) -> Option<u32>
 
 /// The number of an option: its default where it isn't given; None where its value isn't the digits of a number from
 /// `least` to `most`, without a sign or a leading zero.
-fn number_within(given: Option<&str>, default: u32, least: u32, most: u32) -> Option<u32>
+pub fn number_within(given: Option<&str>, default: u32, least: u32, most: u32) -> Option<u32>
     ensures { MatchOption result ((n : ℕ) → IsValue (listed given.entry) default least most n → ⊥)
         (λ n. IsValue (listed given.entry) default least most n) }
 {

@@ -1,0 +1,23 @@
+//! The program: it makes the shelf of real files and standard output, and runs the top call over its words.
+#![tactic(auto)]
+
+use hoist_cli::Status;
+use outside::{FileShelf, StdSink};
+use prove_cli::hoist_prove;
+use std::process::ExitCode;
+use std::{env, io};
+
+fn main(rt: HostRuntime) -> ExitCode {
+    let alloc = rt.alloc();
+    // Words that can't be had, such as one that isn't UTF-8, ask nothing.
+    let words = match env::args(&rt) {
+        Ok(args) => args.collect::<Vec<String>>(alloc),
+        Err(_) => Ok(Vec::new(alloc)),
+    };
+    let Ok(words) = words else {
+        return Status::Memory.exit_code();
+    };
+    let mut shelf = FileShelf::new(&rt);
+    let mut sink = StdSink::new(io::writer(&rt));
+    hoist_prove(&rt, alloc, words.as_slice(), &mut shelf, &mut sink).exit_code()
+}
