@@ -1,0 +1,6 @@
+pub mod AgainLemmas
+pub mod NearLemmas
+pub mod ShiftLemmas
+pub mod ListLemmas
+pub mod ListedLemmas
+pub mod PathLemmas

@@ -1,0 +1,3 @@
+pub mod Depth
+pub mod Asked
+pub mod Laws
