@@ -12,3 +12,5 @@ pub mod RoundLemmas
 pub mod WorkLemmas
 pub mod OutcomeLemmas
 pub mod OneLemmas
+pub mod LoadLemmas
+pub mod EnoughLemmas

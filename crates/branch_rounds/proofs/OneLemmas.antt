@@ -20,7 +20,7 @@ use Rattle.branch_rounds.specs.ExpansionLemmas.{expansion_is_one, few_below}
 
 -- ---- the states
 
-narrow_round : (l : LineData) (budget : ℕ) (s : Search) (xs : List Expanded) → IsLine l → IsRound l budget s xs → AreNarrow xs
+pub narrow_round : (l : LineData) (budget : ℕ) (s : Search) (xs : List Expanded) → IsLine l → IsRound l budget s xs → AreNarrow xs
 narrow_round l budget s xs line round = λ k x lt is. let r = round.each k x lt is in few_below l r.path (cap_of l s.best) x line r.expansion
 
 placed_after : (l : LineData) (budget : ℕ) (s : Search) (xs : List Expanded) → IsLine l → budget ≤ 20000 → IsPlaced s → IsRound l budget s xs
@@ -29,7 +29,7 @@ placed_after l budget s xs line small placed round =
     (placed_all s.tree [] s.frontier s.best (best_of s.best xs) s.splits xs placed (narrow_round l budget s xs line round) (omega (arith, round.count))
     (omega (arith, round.count, round.unspent, small))).0
 
-placed_reached : (l : LineData) (budget rounds : ℕ) (s : Search) → IsLine l → budget ≤ 20000 → IsReached l budget rounds s → IsPlaced s
+pub placed_reached : (l : LineData) (budget rounds : ℕ) (s : Search) → IsLine l → budget ≤ 20000 → IsReached l budget rounds s → IsPlaced s
 placed_reached l budget zero s line small e = let P : Search → Type 0 = λ x. IsPlaced x in subst P (sym e) (kept_start l).placed
 placed_reached l budget (suc rounds) s line small (before, xs, reached, round, e) =
     let P : Search → Type 0 = λ x. IsPlaced x in

@@ -177,7 +177,7 @@ root_tree = record {
         let lt = subst There (no_children i) h.there in
         omega (arith, lt)
 
-root_path : (i : ℕ) (path : List Decision) → IsPathTo (Left None ∷ []) i path → path ≡ []
+pub root_path : (i : ℕ) (path : List Decision) → IsPathTo (Left None ∷ []) i path → path ≡ []
 root_path i [] leads = refl
 root_path i (d ∷ ds) (k, b, rest) = absurd (split_is_not_left (node_at (Left None ∷ []) 0) d b.children b.split tt)
 

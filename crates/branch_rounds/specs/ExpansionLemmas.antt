@@ -1,5 +1,5 @@
 -- A path has one expansion under a cap.
-use Rattle.std.proofs.Common.{⊎_elim, inl, inr, ◌≡◌, ℕ, zero, suc, ◌+◌, ◌*◌, ◌/◌, ◌%◌, ◌<◌, ◌≤◌, List, [], ◌∷◌, length, get_or, refl, sym, ◌∙◌, ap, subst, arith, ℤ, Some, None}
+use Rattle.std.proofs.Common.{⊎_elim, inl, inr, ◌≡◌, ℕ, zero, suc, ◌<◌, ◌≤◌, List, [], ◌∷◌, length, get_or, refl, sym, ◌∙◌, ap, subst, arith, ℤ, Some, None}
 use Rattle.std.specs.Prelude.{Option, option_map}
 use Rattle.std.proofs.lemmas.Bool.{cases_order}
 use Rattle.hoist_base.specs.LineData.{LineData, move_number, move_count, IsVisit, move_at, visit_at, IsMove}

@@ -8,6 +8,7 @@ use Rattle.choice_tree.specs.Nodes.{node_at, NoneLeft, SomeLeft}
 use Rattle.choice_tree.specs.Trees.{IsTree}
 use Rattle.path_constraints.specs.Proves.{Proves}
 use Rattle.node_expand.specs.Plannable.{IsPlannable}
+use Rattle.enough_budget.specs.Depth.{enough_budget}
 use Rattle.answer_text.specs.Nodes.{IsNodeText}
 use Rattle.branch_rounds.specs.declared.outcome.Outcome.{Outcome}
 use Rattle.branch_rounds.specs.Grown.{cap_of, IsGrown}
@@ -15,7 +16,8 @@ use Rattle.branch_rounds.specs.Counted.{split_nodes}
 
 -- The rounds of the line within the budget lead to the outcome. Its tree proves its bound, so that no legal timetable has a
 -- smaller period, and its best can be planned. Where nothing is left, the bound is the best's period, or one more than the
--- greatest period where there is no best; where something is left, the budget is spent.
+-- greatest period where there is no best; where something is left, the budget is spent. A budget that is enough for the line
+-- leaves nothing.
 pub record IsSearched (l : LineData) (budget : ℕ) (o : Outcome) : Type 0 where
   pub grown : IsGrown l budget o
   pub valid : IsLine l
@@ -29,5 +31,6 @@ pub record IsSearched (l : LineData) (budget : ℕ) (o : Outcome) : Type 0 where
   pub none_left : o.left ≡ 0 → NoneLeft o.tree
   pub some_left : 0 < o.left → SomeLeft o.tree
   pub spent : 0 < o.left → o.splits ≡ budget
+  pub enough : enough_budget l ≤ budget → o.left ≡ 0
   pub splits : o.splits ≤ budget
   pub splits_counted : split_nodes o.tree ≡ o.splits

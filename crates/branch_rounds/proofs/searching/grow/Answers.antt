@@ -5,6 +5,7 @@ use Rattle.branch_rounds.specs.Grown.{Search}
 use Rattle.branch_rounds.specs.Kept.{IsKept}
 use Rattle.branch_rounds.proofs.RoundLemmas.{cap_range}
 use Rattle.branch_rounds.proofs.OutcomeLemmas.{kept_start, proves, bound_whole, none_left, some_left}
+use Rattle.branch_rounds.proofs.EnoughLemmas.{enough_leaves_none}
 use Rattle.branch_rounds.proofs.searching.grow.Goals as goal
 
 pub loop-state-init : goal.loop-state-init
@@ -64,6 +65,7 @@ returns g c =
       bound = (e.bound.some, e.bound.most, omega (arith, e.bound.most, cap.2));
       whole = λ none. bound_whole l s c.in_ok-bound.bound e.bound (omega (arith, none, left));
       spent = λ some. ⊎_elim (λ none. absurd (omega (arith, none, left, some))) (λ le. omega (arith, le, v.splits)) done;
+      enough = λ enough. omega (arith, left, enough_leaves_none l c.args.budget v.reached.0 s e.valid c.requires v.reached.1 done enough);
       splits = v.splits;
       splits_counted = v.kept.placed.counted;
       none_left = λ none. none_left s v.kept.placed (omega (arith, none, left));
