@@ -63,7 +63,9 @@ fn expand_at_once<R: Threads + Sync, G: Gate>(
     ensures rooms { All (λ room. room ≡ work.now.line.now) rooms.new.items }
 {
     let (board, mut seat) = Board::new(alloc, paths.len() as u32, workers)?;
-    let expansions = run_in(rt, alloc, &board, &mut seat, work, paths, workers, rooms, gate);
+    let expansions = run_in(
+        rt, alloc, &board, &mut seat, work, paths, workers, rooms, gate,
+    );
     board.close(seat);
     expansions
 }

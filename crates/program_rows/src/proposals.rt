@@ -77,7 +77,10 @@ fn worked_lines_are_proved(rt: HostRuntime) -> Result<(), Fail> {
     ];
     for i in 0..rows.len() {
         let seen = prove(&rt, alloc, rows[i])?;
-        assert!(rt; seen.text.as_slice().starts_with(rows[i].head.as_bytes()), "row {i}");
+        assert!(rt;
+            seen.text.as_slice().starts_with(rows[i].head.as_bytes()),
+            "row {i}"
+        );
         assert_eq!(rt; seen.status, rows[i].status, "row {i}");
     }
     Ok(())
@@ -123,7 +126,11 @@ fn what_is_rejected_is_never_printed(rt: HostRuntime) -> Result<(), Fail> {
         (below.as_str(), Status::Unfinished, NO_SPLIT_ANSWER),
         (above.as_str(), Status::Unfinished, NO_SPLIT_ANSWER),
         (ONE_BATH_ANSWER, Status::Done, ONE_BATH_ANSWER),
-        (ONE_BATH_OPEN_ANSWER, Status::Unfinished, ONE_BATH_OPEN_ANSWER),
+        (
+            ONE_BATH_OPEN_ANSWER,
+            Status::Unfinished,
+            ONE_BATH_OPEN_ANSWER,
+        ),
     ];
     for i in 0..rows.len() {
         let (proposed, status, text) = rows[i];

@@ -89,7 +89,6 @@ dashed w rest e file = subst IsFileName e file refl
 same_value : (v u : List ℕ) → joined v ≡ joined u → v ≡ u
 same_value v u e = append_cancel_left (codes "--nodes=") v u e
 
-
 -- the words say this file with this value, and no other file with a name
 abbrev pub SayOnly : List (List ℕ) → List ℕ → List ℕ → Type 0
 SayOnly words a v =

@@ -37,7 +37,10 @@ fn words_that_ask(rt: HostRuntime) -> Result<(), Fail> {
         row(&["hoist_prove", "--nodes", "5", "f"], "f 5"),
         row(&["hoist_prove", "f", "--nodes=0"], "f 0"),
         row(&["hoist_prove", "--nodes=7", "a b=c"], "a b=c 7"),
-        row(&["hoist_prove", "f", "--nodes", "1000000000"], "f 1000000000"),
+        row(
+            &["hoist_prove", "f", "--nodes", "1000000000"],
+            "f 1000000000",
+        ),
     ];
     for i in 0..rows.len() {
         let text = told(rt.alloc(), rows[i].words)?;
@@ -66,7 +69,10 @@ fn words_that_ask_for_nothing(rt: HostRuntime) -> Result<(), Fail> {
         row(&["hoist_prove", "f", "--nodes", "-5"], "nothing"),
         row(&["hoist_prove", "f", "--nodes", "1000000001"], "nothing"),
         row(&["hoist_prove", "f", "--nodes=5", "--nodes=5"], "nothing"),
-        row(&["hoist_prove", "--nodes=5", "f", "--nodes", "5"], "nothing"),
+        row(
+            &["hoist_prove", "--nodes=5", "f", "--nodes", "5"],
+            "nothing",
+        ),
         row(&["hoist_prove", "--nodes", "--nodes", "5"], "nothing"),
         row(&["hoist_prove", "f", "--node", "5"], "nothing"),
         row(&["hoist_prove", "f", "--nodes", "5", "g"], "nothing"),

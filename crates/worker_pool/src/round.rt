@@ -40,7 +40,9 @@ pub fn run<W: Work, G: Gate, R: Threads + Sync>(
     ensures all { HasAll seat.new }
 {
     let mut rooms = Vec::new(alloc);
-    run_in(rt, alloc, board, seat, work, jobs, workers, &mut rooms, gate)
+    run_in(
+        rt, alloc, board, seat, work, jobs, workers, &mut rooms, gate,
+    )
 }
 
 /// `run` in rooms that are kept: each worker has one of them, and those that are lacking are made first. Whatever the
