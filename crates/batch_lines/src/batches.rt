@@ -17,7 +17,8 @@ use text_writing::push_word_number;
 use worker_pool::run;
 
 /// What is printed of each of at most 64 lines, in the order of the lines, each under a budget of at most 500 splits. The
-/// lines are jobs of 1 to 64 workers, which have no part in what is printed, and pass the gate by their number.
+/// lines are jobs of 1 to 64 workers, which have no part in what is printed, and pass the gate by their number. There are
+/// no more workers than lines.
 ///
 /// # Errors
 ///
@@ -35,6 +36,7 @@ pub fn batch<R: Threads + Sync, G: Gate>(
     requires workers { (1 ≤ workers) × (workers ≤ 64) }
     ensures { IfOk result (λ singles. AreSingles lines.now budget singles) }
 {
+    let workers = workers.min(lines.len().max(1) as u32);
     let (board, mut seat) = Board::new(alloc, lines.len() as u32, workers)?;
     let work = Solving { budget };
     let singles = run(rt, alloc, &board, &mut seat, &work, lines, workers, gate);
