@@ -3,7 +3,9 @@ use crate::answers::{NO_SPLIT_ANSWER, ONE_BATH_ANSWER, TWO_STATIONS_ANSWER};
 use crate::lines::Worked;
 use crate::runs::{Files, run};
 use hoist_cli::Status;
+use std::alloc::Global;
 use std::test::Fail;
+use std::thread::Threads;
 
 /// A command over a worked line and another file, and what is to come.
 #[derive(Clone, Copy)]
@@ -140,6 +142,70 @@ fn logs_and_lists(rt: HostRuntime) -> Result<(), Fail> {
         assert_eq!(rt; seen.text.as_slice(), row.text.as_bytes(), "row {i}");
         assert_eq!(rt; seen.status, row.status, "row {i}");
     }
+    Ok(())
+}
+
+/// A log that departs, and by what.
+type Departure = (&'static str, &'static str);
+
+const OF_TWO_STATIONS: [Departure; 9] = [
+    ("at 0\ns put\ns\ns begin 0 1\nh\n", "3 busy hoist 0"),
+    ("at 0\ns\nl\n", "1 edge hoist 0 at 0"),
+    ("at 0\ns off\n", "0 no carrier tank 1"),
+    (
+        "at 0\ns put\ns begin 0 1\n",
+        "1 early carrier 0 stage 0 age 1 bound 2",
+    ),
+    ("at 0\ns put\ns put\n", "1 held tank 0 carrier 0"),
+    ("at 3\ns begin 0 1\n", "0 not there hoist 0 at 3"),
+    (
+        "at 0\ns put\ns\ns begin 0 1\ns\ns\ns\ns\ns\ns begin 0 1\n",
+        "8 no move carrier 0 stage 1",
+    ),
+    ("at 0\ns put\ns\ns begin 0 0\n", "2 no way hoist 0 tank 0"),
+    ("at 5\ns\n", "0 edge hoist 0 at 5"),
+];
+
+const OF_ONE_BATH: [Departure; 1] = [(
+    "at 0\ns put begin 0 1\ns\ns\ns\ns\ns\ns\ns\ns\ns\ns\ns\ns\ns\ns\ns\ns\n",
+    "16 late carrier 0 stage 1 age 11 bound 10",
+)];
+
+const OF_TWO_HOISTS: [Departure; 2] = [
+    ("at 0 3\nss\nhs\nhs\n", "2 near hoist 0 low 2 high 3"),
+    ("at 2 3\nss\n", "0 near hoist 0 low 2 high 3"),
+];
+
+/// Whether the command `follow` says so of each of these logs of a line.
+fn all_depart<R: Threads + Sync>(
+    rt: &R,
+    alloc: Global,
+    line: Worked,
+    rows: &[Departure],
+) -> Result<bool, Fail> {
+    let file = line.file(alloc)?;
+    for row in rows {
+        let (ticks, breach) = *row;
+        let log = format!(in alloc; "hoist log 1\n{ticks}end\n")?;
+        let text = format!(in alloc; "departs {breach}\n")?;
+        let files = Files {
+            line: file.as_str().as_bytes(),
+            answer: log.as_str().as_bytes(),
+        };
+        let seen = run(rt, alloc, "hoist follow line answer", files)?;
+        if seen.status != Status::Negative || seen.text.as_slice() != text.as_str().as_bytes() {
+            return Ok(false);
+        }
+    }
+    Ok(true)
+}
+
+#[test]
+fn logs_depart_by_each_breach(rt: HostRuntime) -> Result<(), Fail> {
+    let alloc = rt.alloc();
+    assert!(rt; all_depart(&rt, alloc, Worked::TwoStations, &OF_TWO_STATIONS)?);
+    assert!(rt; all_depart(&rt, alloc, Worked::OneBath, &OF_ONE_BATH)?);
+    assert!(rt; all_depart(&rt, alloc, Worked::TwoHoists, &OF_TWO_HOISTS)?);
     Ok(())
 }
 

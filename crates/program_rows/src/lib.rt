@@ -20,6 +20,8 @@ mod runs;
 #[cfg(test)]
 mod runs_and_charts;
 #[cfg(test)]
+mod six_hoists;
+#[cfg(test)]
 mod solves;
 #[cfg(test)]
 mod words;
