@@ -24,7 +24,7 @@ solved_with l budget o t small s plan legal fits =
     record {
       valid = s.valid;
       solution = (o, s.grown, record { verdict = refl; bound = refl; splits = refl; tree = refl; timetable = plan });
-      claim = keeps_claim l budget o.left o.splits o.bound o.best o.tree t s.valid s.whole s.spent s.proves s.none_below plan legal;
+      claim = keeps_claim l budget o.left o.splits o.bound o.best o.tree t s.valid s.whole s.spent s.enough s.proves s.none_below plan legal;
       writable = record {
         bound = (s.bound.0, omega (arith, s.bound.2));
         splits = omega (arith, s.splits, small);

@@ -1,10 +1,11 @@
 -- What an answer claims, by its verdict.
-use Rattle.std.specs.Prelude.{◌≡◌, ℕ, ◌+◌, Some, None, IfSome}
+use Rattle.std.specs.Prelude.{◌≡◌, ℕ, ◌+◌, ◌<◌, Some, None, IfSome}
 use Rattle.hoist_base.specs.LineData.{LineData}
 use Rattle.line_model.specs.Legal.{IsLegal, IsLeast, NoneBelow}
 use Rattle.line_model.specs.Run.{KeepsWindows}
 use Rattle.timetable.specs.TimetableData.{TimetableData, timetable_of}
 use Rattle.path_constraints.specs.Proves.{Proves}
+use Rattle.enough_budget.specs.Depth.{enough_budget}
 use Rattle.answer_text.specs.declared.answer.Verdict.{Verdict}
 use Rattle.answer_text.specs.declared.answer.Verdict.TheVariants.{Optimal, Nothing, Unfinished}
 use Rattle.answer_text.specs.declared.answer.Answer.{Answer}
@@ -27,9 +28,11 @@ pub record IsNothing (l : LineData) (a : Answer) : Type 0 where
   pub none_below : NoneBelow l a.bound
   pub proves : Proves l a.tree a.bound
 
--- the budget was spent; none has a period below the bound, which the tree proves, and a timetable, where there is one, is legal
+-- the budget was spent, and is less than one that is enough for the line; none has a period below the bound, which the tree
+-- proves, and a timetable, where there is one, is legal
 pub record IsUnfinished (l : LineData) (budget : ℕ) (a : Answer) : Type 0 where
   pub splits : a.splits ≡ budget
+  pub too_small : budget < enough_budget l
   pub legal : IfSome a.timetable (λ t. IsLegal l (timetable_of t))
   pub none_below : NoneBelow l a.bound
   pub proves : Proves l a.tree a.bound
