@@ -68,7 +68,8 @@ fn grow_at_once<R: Threads + Sync, G: Gate>(
 /// pass the gate by their number within the round. Its outcome is that of one worker.
 ///
 /// The tree proves the bound: no legal timetable has a smaller period. The best can be planned. Where nothing is left,
-/// the bound is the best's period, or one more than the greatest period where there is no best.
+/// the bound is the best's period, or one more than the greatest period where there is no best. A budget that is enough
+/// for the line leaves nothing.
 pub fn search<R: Threads + Sync, G: Gate>(
     rt: &R,
     alloc: Global,
