@@ -4,3 +4,4 @@ pub mod Parts
 pub mod Printed
 pub mod Workers
 pub mod Drilled
+pub mod Completed

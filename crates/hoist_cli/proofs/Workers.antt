@@ -79,7 +79,7 @@ ended files before after file budget status text unread is =
     )))
     is
 
-abbrev line_or : LineData → LineRead → LineData
+abbrev pub line_or : LineData → LineRead → LineData
 line_or other (Ready l) = l
 line_or other (Refused why) = other
 
@@ -90,7 +90,7 @@ refusal_or (Refused why) = codes "line refused: " ++ (refusal_of why ++ codes "\
 apart : (bytes : List ℕ) → line_limit < length bytes → length bytes ≤ line_limit → ⊥
 apart bytes long fits = omega (arith, long, fits)
 
-not_both : (why : Why) (l : LineData) → Refused why ≡ Ready l → ⊥
+pub not_both : (why : Why) (l : LineData) → Refused why ≡ Ready l → ⊥
 not_both why l e = cc
 
 abbrev AreSame : Status → Status → List ℕ → List ℕ → Type 0

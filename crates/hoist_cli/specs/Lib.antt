@@ -9,3 +9,4 @@ pub mod Swept
 pub mod Followed
 pub mod Batched
 pub mod Stops
+pub mod Complete

@@ -88,7 +88,8 @@ fn reply_to<R: Threads + Sync, F: Shelf, G: Gate>(
 /// - `solve` with the status `Done`: the printed text is that of the answer of the search, whose timetable is legal tick by
 ///   tick; every carrier of every run of it keeps its windows; no legal timetable of the line has a smaller period; and
 ///   the printed tree of constraint cycles proves this. With `Negative` no legal timetable has a period up to the line's
-///   greatest; with `Unfinished` the budget was spent, and none has a period below the printed bound.
+///   greatest; with `Unfinished` the budget was spent and is less than one that is enough for the line, and none has a
+///   period below the printed bound.
 /// - `check` with the status `Done`: the answer's timetable, where it has one, is legal, its tree proves its bound, and so no
 ///   legal timetable of the line has a smaller period. With `Negative` the first reason to reject it is printed.
 /// - `run`, `chart` and `margin` with the status `Done`: the answer's timetable is legal, and the log of its run, or its chart
