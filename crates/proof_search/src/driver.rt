@@ -1,5 +1,6 @@
 // From one try to the next: which periods are looked at, and for how long.
 
+use crate::hunting::Turns;
 use crate::search::{Search, Try, WHOLE};
 use crate::state::Range;
 use crate::tree::Tree;
@@ -168,8 +169,13 @@ impl<'a> Search<'a> {
         self.nodes >= self.limit
     }
 
-    /// The root of a tree that refutes all periods below the best, where one is found within so many more nodes.
-    pub(crate) fn solve(&mut self, more: u64) -> Result<Option<u32>, AllocError> {
+    /// The root of a tree that refutes all periods below the best, where one is found within so many more nodes. It takes
+    /// turns with a hunt.
+    pub(crate) fn solve(
+        &mut self,
+        turns: &mut Turns,
+        more: u64,
+    ) -> Result<Option<u32>, AllocError> {
         self.limit = self.limit.saturating_add(more);
         let low = self.root_low()?;
         let mut progress = Progress {
@@ -180,6 +186,7 @@ impl<'a> Search<'a> {
             stalled: false,
         };
         for _turn in 0..u64::MAX {
+            self.hunt(turns, progress.low)?;
             if self.is_spent() {
                 break;
             }

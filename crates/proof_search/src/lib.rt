@@ -4,6 +4,7 @@
 mod changes;
 mod driver;
 mod frames;
+mod hunting;
 mod leaf;
 mod literals;
 mod nogoods;

@@ -2,6 +2,7 @@
 
 ghost use Rattle.std.specs.Prelude.{◌≤◌};
 
+use crate::hunting::Turns;
 use crate::plan_text::write_plan;
 use crate::search::Search;
 use crate::tree_text::TreeText;
@@ -96,11 +97,13 @@ pub fn propose(alloc: Global, line: &Line, nodes: u32) -> Result<Vec<u8>, AllocE
         let root = search.tree.push_stuck(small(m))?;
         return answer_text(alloc, &search, root, None);
     }
-    if let Some(root) = search.solve(first)? {
+    let aim = natural_bound(alloc, line)?;
+    let low = search.root_low()?.max(aim);
+    let mut turns = Turns::new(alloc, line, low)?;
+    if let Some(root) = search.solve(&mut turns, first)? {
         let root = search.smallest(root)?;
         return answer_text(alloc, &search, root, None);
     }
-    let aim = natural_bound(alloc, line)?;
     match search.best_bound(limit - first, aim)? {
         Some(proof) if proof.bound < search.top() => answer_text(
             alloc,
