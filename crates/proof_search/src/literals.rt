@@ -112,7 +112,7 @@ impl Literals {
                 ..
             } => {
                 let side = (pair as usize).wrapping_mul(2).wrapping_add(child as usize);
-                let last = (self.hoists as i64).wrapping_sub(1);
+                let last = i64::try_from(self.hoists).unwrap_or(1).wrapping_sub(1);
                 let shift = index(diff.wrapping_add(last));
                 side.wrapping_mul(self.shifts).wrapping_add(shift)
             }

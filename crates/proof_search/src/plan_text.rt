@@ -99,7 +99,9 @@ impl<'a> Plan<'a> {
         for u in 0..index(ride.lasts).saturating_add(1) {
             let tick = index(self.start(m)).wrapping_add(u);
             let place = if ticks == 0 { 0 } else { tick % ticks };
-            let there = ride.place(u as i64).max(at(row, place, 0));
+            let there = ride
+                .place(i64::try_from(u).unwrap_or(0))
+                .max(at(row, place, 0));
             put(row, place, there);
         }
     }
