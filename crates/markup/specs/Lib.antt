@@ -1,0 +1,3 @@
+pub mod Words
+pub mod Escape
+pub mod Forms
