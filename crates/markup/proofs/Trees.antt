@@ -90,6 +90,7 @@ one_more old text new n part before after =
 -- one element more behind the first ones
 pub holds_more : (f old new e : Form) (g : ℕ → Form) (n : ℕ) → old ≡ holding_all f (map g (range_with_len 0 n)) → e ≡ g n
     → new ≡ holding old e → new ≡ holding_all f (map g (range_with_len 0 (n + 1)))
+unfolding holding holding_all
 holds_more f old new e g n before is after =
     let first = map g (range_with_len 0 n) in
     after ∙ ap (λ x. holding x e) before ∙ ap (λ x. holding (holding_all f first) x) is
@@ -101,4 +102,5 @@ holds_more f old new e g n before is after =
     ∙ ap (flat_map form_text) (sym (map-range_with_len_more g 0 n n (omega arith)))))
 
 pub holds_none : (f : Form) (g : ℕ → Form) → f ≡ holding_all f (map g (range_with_len 0 0))
+unfolding holding_all
 holds_none f g = ap (λ (xs : List ℕ). record f { inside = xs }) (sym (append-nil f.inside))

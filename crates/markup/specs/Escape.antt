@@ -1,5 +1,5 @@
 -- Words that stand between the marks of elements, or in an attribute.
-use Rattle.std.specs.Prelude.{ℕ, ◌==◌, if◌then◌else◌, List, [], ◌∷◌, codes, flat_map}
+use Rattle.std.specs.Prelude.{◌≢◌, ℕ, ◌==◌, if◌then◌else◌, List, [], ◌∷◌, codes, flat_map, All}
 
 -- a byte that would begin or end a mark or a value is named
 abbrev pub escape_of : ℕ → List ℕ
@@ -9,3 +9,11 @@ escape_of b =
 
 abbrev pub escaped : List ℕ → List ℕ
 escaped words = flat_map escape_of words
+
+-- the byte neither begins nor ends a mark or a value
+abbrev pub IsInner : ℕ → Type 0
+IsInner b = (b ≢ 60) × (b ≢ 62) × (b ≢ 34)
+
+-- whatever the words, no byte of them does so once they are escaped
+abbrev pub NothingIsRaw : Type 0
+NothingIsRaw = (words : List ℕ) → All IsInner (escaped words)

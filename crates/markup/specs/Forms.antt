@@ -30,21 +30,21 @@ abbrev pub form_text : Form → List ℕ
 form_text f = start_text f.tag f.attributes ++ rest_text (is_void f.tag) f.tag f.inside
 
 -- an element that has no attribute and holds nothing
-abbrev pub fresh : Tag → Form
+unfoldable pub fresh : Tag → Form
 fresh tag = form tag [] []
 
 -- one with an attribute more, with words behind what it holds, with another element there
-abbrev pub having : Form → Key → List ℕ → Form
+unfoldable pub having : Form → Key → List ℕ → Form
 having f key value = record f { attributes = f.attributes ++ attribute_text key value }
 
-abbrev pub saying : Form → List ℕ → Form
+unfoldable pub saying : Form → List ℕ → Form
 saying f w = record f { inside = f.inside ++ escaped w }
 
-abbrev pub holding : Form → Form → Form
+unfoldable pub holding : Form → Form → Form
 holding f child = record f { inside = f.inside ++ form_text child }
 
 -- one with other elements there, in their order
-abbrev pub holding_all : Form → List Form → Form
+unfoldable pub holding_all : Form → List Form → Form
 holding_all f children = record f { inside = f.inside ++ flat_map form_text children }
 
 -- the text of an element by its parts
@@ -73,7 +73,7 @@ abbrev pub IsInside : List ℕ → Type 0
 IsInside text = (forest : Forest) × (text ≡ forest_text forest)
 
 -- a document: the line that says that it is HTML, and one element
-abbrev pub document_text : Form → List ℕ
+unfoldable pub document_text : Form → List ℕ
 document_text f = codes "<!DOCTYPE html>\n" ++ form_text f
 
 -- the text is that of some element, with some attributes, that holds some words and elements

@@ -30,7 +30,7 @@ impl Model for Element {
 }
 
 impl Element {
-    #[tactic(auto, using(crate::proofs::Trees::no_attributes, crate::proofs::Trees::holds_nothing))]
+    #[tactic(auto, using(crate::proofs::Trees::no_attributes, crate::proofs::Trees::holds_nothing), unfolding(crate::specs::Forms::fresh))]
     /// An element that has no attribute and holds nothing. It takes no memory.
     pub fn new(alloc: Global, tag: Tag) -> Element
         ensures { result ≡ fresh tag }
@@ -42,6 +42,7 @@ impl Element {
         }
     }
 
+    #[tactic(auto, unfolding(crate::specs::Forms::having))]
     /// The element with one attribute more, whose value is these words.
     pub fn having(self, key: Key, value: &[u8]) -> Result<Element, AllocError>
         ensures { IfOk result (λ e. e ≡ having self key value.now) }
@@ -67,6 +68,7 @@ impl Element {
         self.having(key, buffer.format(number).as_bytes())
     }
 
+    #[tactic(auto, unfolding(crate::specs::Forms::saying))]
     /// The element with these words behind what it holds.
     pub fn saying(self, words: &[u8]) -> Result<Element, AllocError>
         ensures { IfOk result (λ e. e ≡ saying self words.now) }
@@ -84,6 +86,7 @@ impl Element {
         })
     }
 
+    #[tactic(auto, unfolding(crate::specs::Forms::holding))]
     /// The element with another one behind what it holds.
     pub fn holding(self, child: &Element) -> Result<Element, AllocError>
         ensures { IfOk result (λ e. e ≡ holding self child.now) }

@@ -4,6 +4,7 @@
 
 mod element;
 mod escape;
+pub mod laws;
 #[cfg(test)]
 mod tests;
 mod whole;
