@@ -1,0 +1,4 @@
+pub mod Scales
+pub mod Shapes
+pub mod Laws
+pub mod Diagram
