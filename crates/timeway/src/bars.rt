@@ -92,12 +92,7 @@ fn hold_end(line: &Line, t: &Timetable, v: VisitId) -> u64
 }
 
 /// The carrier, the tank, the stage, the dwell and its window.
-fn bar_title(
-    alloc: Global,
-    line: &Line,
-    t: &Timetable,
-    v: VisitId,
-) -> Result<Vec<u8>, AllocError>
+fn bar_title(alloc: Global, line: &Line, t: &Timetable, v: VisitId) -> Result<Vec<u8>, AllocError>
     requires fits { FitsLine line.now t.now }
     requires there { IsVisit line.now v.carrier v.stage }
     ensures { IfOk result (λ text. text.items ≡ shapes.bar_title line.now (timetable_of t.now) v.carrier v.stage) }
@@ -109,12 +104,7 @@ fn bar_title(
 }
 
 /// Writes the carrier, the tank and the stage.
-fn push_place(
-    text: &mut Vec<u8>,
-    line: &Line,
-    t: &Timetable,
-    v: VisitId,
-) -> Result<(), AllocError>
+fn push_place(text: &mut Vec<u8>, line: &Line, t: &Timetable, v: VisitId) -> Result<(), AllocError>
     requires fits { FitsLine line.now t.now }
     requires there { IsVisit line.now v.carrier v.stage }
     ensures { OnOk result (text.new.items ≡ text.old.items ++ shapes.bar_place line.now (timetable_of t.now) v.carrier v.stage) }
@@ -126,12 +116,7 @@ fn push_place(
 }
 
 /// Writes the dwell and its window.
-fn push_window(
-    text: &mut Vec<u8>,
-    line: &Line,
-    t: &Timetable,
-    v: VisitId,
-) -> Result<(), AllocError>
+fn push_window(text: &mut Vec<u8>, line: &Line, t: &Timetable, v: VisitId) -> Result<(), AllocError>
     requires fits { FitsLine line.now t.now }
     requires there { IsVisit line.now v.carrier v.stage }
     ensures { OnOk result (text.new.items ≡ text.old.items ++ shapes.bar_window line.now (timetable_of t.now) v.carrier v.stage) }

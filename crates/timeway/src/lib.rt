@@ -8,8 +8,8 @@ mod notes;
 mod rides;
 mod scales;
 mod shapes;
-mod whole;
 mod ways;
+mod whole;
 
 pub use bars::{push_greatest, rest_ticks};
 pub use rides::tank_name;

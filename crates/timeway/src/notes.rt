@@ -12,13 +12,7 @@ use std::alloc::{AllocError, Global};
 use text_writing::{push_number, push_word_number};
 
 /// Words of a class at a place in pixels.
-fn note(
-    alloc: Global,
-    class: &[u8],
-    x: u64,
-    y: u64,
-    words: &[u8],
-) -> Result<Element, AllocError>
+fn note(alloc: Global, class: &[u8], x: u64, y: u64, words: &[u8]) -> Result<Element, AllocError>
     ensures { IfOk result (λ e. e ≡ diagrams.note class.now x y words.now) }
 {
     Element::new(alloc, Tag::Text)

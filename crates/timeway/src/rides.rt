@@ -54,12 +54,7 @@ fn ride_line(alloc: Global, line: &Line, m: Motion, start: u64) -> Result<Elemen
 }
 
 /// The hoist, the carrier, where it is brought, and the ticks.
-fn ride_title(
-    alloc: Global,
-    line: &Line,
-    t: &Timetable,
-    m: MoveId,
-) -> Result<Vec<u8>, AllocError>
+fn ride_title(alloc: Global, line: &Line, t: &Timetable, m: MoveId) -> Result<Vec<u8>, AllocError>
     requires fits { FitsLine line.now t.now }
     requires there { IsMove line.now m.carrier m.step }
     ensures { IfOk result (λ text. text.items ≡ shapes.ride_title line.now (timetable_of t.now) m.carrier m.step) }

@@ -41,13 +41,7 @@ pub(crate) fn push_point(
 }
 
 /// A straight line from one point to another.
-pub fn straight(
-    alloc: Global,
-    x1: u64,
-    y1: u64,
-    x2: u64,
-    y2: u64,
-) -> Result<Element, AllocError>
+pub fn straight(alloc: Global, x1: u64, y1: u64, x2: u64, y2: u64) -> Result<Element, AllocError>
     ensures { IfOk result (λ e. e ≡ shapes.straight x1 y1 x2 y2) }
 {
     Element::new(alloc, Tag::Line)
@@ -68,11 +62,7 @@ pub(crate) fn titled(alloc: Global, class: &[u8], title: &[u8]) -> Result<Elemen
 }
 
 /// The class of what shows a carrier.
-pub fn carrier_class(
-    alloc: Global,
-    word: &[u8],
-    carrier: u32,
-) -> Result<Vec<u8>, AllocError>
+pub fn carrier_class(alloc: Global, word: &[u8], carrier: u32) -> Result<Vec<u8>, AllocError>
     ensures { IfOk result (λ text. text.items ≡ shapes.carrier_class word.now carrier) }
 {
     let mut text = Vec::new(alloc);
