@@ -165,9 +165,11 @@ impl<'a> Search<'a> {
 
     fn push_base(&mut self) -> Result<(), AllocError> {
         for i in 0..self.problem.base.len() {
-            let arc = self.problem.base[i].arc;
+            let Some(base) = self.problem.base.get(i) else {
+                break;
+            };
             self.links.push(Link {
-                arc,
+                arc: base.arc,
                 word: small(i),
                 level: BASE,
             })?;

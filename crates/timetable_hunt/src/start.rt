@@ -72,7 +72,9 @@ impl Seeker {
     fn set_links(&mut self, masks: &[u8], given: &[i32]) -> Result<(), AllocError> {
         self.walks.links.clear();
         for i in 0..self.course.arcs.len() {
-            let arc = self.course.arcs[i];
+            let Some(arc) = self.course.arcs.get(i).copied() else {
+                break;
+            };
             self.walks.add(arc, NO_PAIR)?;
         }
         for number in 0..given.len() {

@@ -88,7 +88,10 @@ impl Walks {
     fn pass(&mut self, period: i64) -> bool {
         let mut rose = false;
         for i in 0..self.links.len() {
-            let arc = self.links[i].arc;
+            let Some(link) = self.links.get(i) else {
+                break;
+            };
+            let arc = link.arc;
             let from = at(&self.ticks, arc.from as usize, NEVER);
             let weight = arc.w.wrapping_add(arc.q.wrapping_mul(period));
             let tick = from.wrapping_add(weight);
