@@ -89,7 +89,7 @@ pub fn propose(alloc: Global, line: &Line, nodes: u32) -> Result<Vec<u8>, AllocE
     requires { nodes ≤ 1000000000 }
 {
     let problem = Problem::new(alloc, line)?;
-    let limit = u64::from(nodes) / cost_of(&problem);
+    let limit = u64::from(nodes).checked_div(cost_of(&problem)).unwrap_or(0);
     // what isn't spent on the optimum goes to a bound
     let first = limit / 10 * 6;
     let mut search = Search::new(alloc, &problem)?;
