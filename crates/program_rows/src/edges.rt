@@ -8,11 +8,7 @@ use std::test::Fail;
 use std::thread::Threads;
 
 /// A text with a comment behind it, so that it has this length.
-pub(crate) fn with_comment(
-    alloc: Global,
-    text: &str,
-    length: usize,
-) -> Result<Vec<u8>, AllocError> {
+fn with_comment(alloc: Global, text: &str, length: usize) -> Result<Vec<u8>, AllocError> {
     let mut bytes = Vec::from_slice(alloc, text.as_bytes())?;
     for _ in bytes.len()..length {
         bytes.push(b'#')?;

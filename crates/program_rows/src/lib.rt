@@ -1,4 +1,4 @@
-//! The worked rows of the whole programs, over files in memory.
+//! The worked rows of the whole program, over files in memory.
 #![tactic(auto)]
 
 #[cfg(test)]
@@ -13,8 +13,6 @@ mod further;
 mod lines;
 #[cfg(test)]
 mod pictures;
-#[cfg(test)]
-mod proposals;
 #[cfg(test)]
 mod runs;
 #[cfg(test)]
