@@ -1,8 +1,8 @@
-"""The man page and the completions of `hoist`, made of the table of words."""
+"""The man pages and the completions of the programs, made of the tables of words."""
 
 import time
 
-from words import COMMANDS, ENVIRONMENT, STATUSES, VERSION, WORDS, asked, limits_of, words_of
+from words import PROGRAMS, TABLES, VERSION, WORDS, asked, limits_of, words_of
 
 
 def roff(text):
@@ -19,9 +19,10 @@ def italic(text):
     return f"\\fI{roff(text)}\\fR"
 
 
-def synopsis(command):
+def synopsis(program, command):
     options = [f"[{bold('--' + it.name)} {italic('N')}]" for it in command.options]
-    return " ".join([bold("hoist " + command.name), *map(italic, command.words), *options])
+    name = " ".join(filter(None, (program.name, command.name)))
+    return " ".join([bold(name), *map(italic, command.words), *options])
 
 
 def entry(head, text):
@@ -33,16 +34,20 @@ def option_entry(option):
     return entry(f"{bold('--' + option.name)} {italic('N')}", f"{option.meaning} {span}")
 
 
-def command_lines(command):
-    lines = [".SS " + synopsis(command), roff(command.text)]
-    for option in command.options:
-        lines += option_entry(option)
+def command_lines(program):
+    """The commands with their options, or the options alone where the program has one form."""
+    lines = [".SH COMMANDS" if program.commands[0].name else ".SH OPTIONS"]
+    for command in program.commands:
+        if command.name:
+            lines += [".SS " + synopsis(program, command), roff(command.text)]
+        for option in command.options:
+            lines += option_entry(option)
     return lines
 
 
-def status_lines(status):
+def status_lines(program, status):
     lines = entry(bold(str(status.number)), status.text)
-    here = [it.name for it in COMMANDS]
+    here = [it.name for it in program.commands]
     texts = {}
     for name, text in status.commands:
         if name in here:
@@ -52,69 +57,59 @@ def status_lines(status):
     return lines
 
 
-EXAMPLES = (
-    ("hoist solve lines/two_stations.toml > answer", "solves a line"),
-    ("hoist check lines/two_stations.toml answer", "checks the answer"),
-    ("hoist chart lines/two_stations.toml answer", "draws it"),
-)
+def description(program):
+    lines = [".SH DESCRIPTION"]
+    for i, text in enumerate(program.text):
+        lines += [".PP"] * (i > 0) + [roff(text)]
+    return lines
 
 
-def man_page(when):
-    """The man page `hoist(1)`, dated by seconds since 1970."""
+def see_also(program):
+    others = [f"{bold(it)}(1)" for it in PROGRAMS if it != program.name]
+    texts = roff("README.md and docs/FORMATS.md of the package: the files, the texts, the claims.")
+    return [".SH SEE ALSO", ", ".join(others), ".PP", texts]
+
+
+def man_page(program, when):
+    """The man page of a program in section 1, dated by seconds since 1970."""
     date = time.strftime("%Y-%m-%d", time.gmtime(when))
-    lines = [f'.TH HOIST 1 "{date}" "hoist {VERSION}" "User Commands"', ".SH NAME"]
-    lines += [roff("hoist") + " \\- " + roff("plans, checks and runs electroplating lines with hoists"), ".SH SYNOPSIS"]
-    for command in COMMANDS:
-        lines += [synopsis(command), ".br"]
-    lines += [".SH DESCRIPTION"]
-    lines += [
-        roff(
-            "A line is a row of tanks on one track, served by hoists that can't overtake one another. Carriers go from "
-            "stage to stage, and each stage has a least dwell and may have a greatest. hoist looks for a timetable "
-            "that repeats with the least period, and proves that no timetable has a smaller one."
-        ),
-        ".PP",
-        roff(
-            "An option is two words, --budget and its number, or one, --budget=N. It stands at most once, anywhere "
-            "behind the command. A number is decimal digits without a sign or a leading zero. All other words that "
-            "begin with a dash ask nothing, --help and --version among them."
-        ),
-        ".SH COMMANDS",
-    ]
-    for command in COMMANDS:
-        lines += command_lines(command)
+    lines = [f'.TH {program.name.upper()} 1 "{date}" "hoist {VERSION}" "User Commands"', ".SH NAME"]
+    lines += [roff(program.name) + " \\- " + roff(program.brief), ".SH SYNOPSIS"]
+    for command in program.commands:
+        lines += [synopsis(program, command), ".br"]
+    lines += description(program) + command_lines(program)
     lines += [".SH WORDS"]
-    for word in words_of(COMMANDS):
+    for word in words_of(program.commands):
         lines += entry(italic(word), WORDS[word][1])
     lines += [".SH EXIT STATUS"]
-    for status in STATUSES:
-        lines += status_lines(status)
+    for status in program.statuses:
+        lines += status_lines(program, status)
     lines += [".SH LIMITS", roff("Of the files, and of the keys of a line file:")]
-    for what, limit in limits_of(COMMANDS):
+    for what, limit in limits_of(program.commands):
         lines += entry(bold(what), limit)
-    lines += [".SH ENVIRONMENT"]
-    for name, text in ENVIRONMENT:
+    lines += [".SH ENVIRONMENT"] if program.environment else []
+    for name, text in program.environment:
         lines += entry(bold(name), text)
     lines += [".SH EXAMPLES"]
-    for example, text in EXAMPLES:
+    for example, text in program.examples:
         lines += entry(bold(example), text)
-    lines += [".SH SEE ALSO", roff("README.md and docs/FORMATS.md of the package: the files, the texts, the claims.")]
-    return "\n".join(lines) + "\n"
+    return "\n".join(lines + see_also(program)) + "\n"
 
 
 def takes_files(command):
     return any(WORDS[it][0] for it in command.words)
 
 
-def bash():
-    names = " ".join(it.name for it in COMMANDS)
-    rows = [f"        {it.name}) options='{' '.join('--' + o.name for o in it.options)}' ;;" for it in COMMANDS]
-    files = "|".join(it.name for it in COMMANDS if takes_files(it))
-    return f"""# Completion of hoist for bash.
-_hoist() {{
-    local word=${{COMP_WORDS[COMP_CWORD]}} before=${{COMP_WORDS[COMP_CWORD - 1]}} options=
-    COMPREPLY=()
-    if ((COMP_CWORD == 1)); then
+def options_of(command):
+    return " ".join(f"--{it.name}" for it in command.options)
+
+
+def bash_of_commands(program):
+    """The part of a completion that goes by the command, which is the first word."""
+    names = " ".join(it.name for it in program.commands)
+    rows = [f"        {it.name}) options='{options_of(it)}' ;;" for it in program.commands]
+    files = "|".join(it.name for it in program.commands if takes_files(it))
+    return f"""    if ((COMP_CWORD == 1)); then
         mapfile -t COMPREPLY < <(compgen -W '{names}' -- "$word")
         return
     fi
@@ -130,9 +125,30 @@ _hoist() {{
     fi
     case ${{COMP_WORDS[1]}} in
         {files}) mapfile -t COMPREPLY < <(compgen -f -- "$word") ;;
-    esac
+    esac"""
+
+
+def bash_of_one_form(command):
+    """The part of a completion of a program with one form, which takes files."""
+    return f"""    # A number stands behind an option.
+    [[ $before == --* || $before == = || $word == = ]] && return
+    if [[ $word == -* ]]; then
+        mapfile -t COMPREPLY < <(compgen -W '{options_of(command)}' -- "$word")
+        return
+    fi
+    mapfile -t COMPREPLY < <(compgen -f -- "$word")"""
+
+
+def bash(program):
+    body = bash_of_commands(program) if program.commands[0].name else bash_of_one_form(program.commands[0])
+    options = " options=" if program.commands[0].name else ""
+    return f"""# Completion of {program.name} for bash.
+_{program.name}() {{
+    local word=${{COMP_WORDS[COMP_CWORD]}} before=${{COMP_WORDS[COMP_CWORD - 1]}}{options}
+    COMPREPLY=()
+{body}
 }}
-complete -o filenames -F _hoist hoist
+complete -o filenames -F _{program.name} {program.name}
 """
 
 
@@ -141,18 +157,18 @@ def quoted(text):
     return "'" + text.replace("'", "’") + "'"
 
 
-def zsh():
-    names = [f"        {quoted(it.name + ':' + it.brief)}" for it in COMMANDS]
-    rows = []
-    for command in COMMANDS:
-        action = {word: "_files" if WORDS[word][0] else " " for word in command.words}
-        specs = [f"{i + 1}:{word}:{action[word]}" for i, word in enumerate(command.words)]
-        specs += [f"--{it.name}=[{it.least} to {it.most}]:N: " for it in command.options]
-        rows.append(f"        {command.name}) _arguments {' '.join(map(quoted, specs))} ;;")
-    return f"""#compdef hoist
-# Completion of hoist for zsh.
-_hoist() {{
-    local -a commands
+def zsh_arguments(command):
+    """What zsh's _arguments is told of the words and options of a command."""
+    action = {word: "_files" if WORDS[word][0] else " " for word in command.words}
+    specs = [f"{i + 1}:{word}:{action[word]}" for i, word in enumerate(command.words)]
+    specs += [f"--{it.name}=[{it.least} to {it.most}]:N: " for it in command.options]
+    return f"_arguments {' '.join(map(quoted, specs))}"
+
+
+def zsh_of_commands(program):
+    names = [f"        {quoted(it.name + ':' + it.brief)}" for it in program.commands]
+    rows = [f"        {it.name}) {zsh_arguments(it)} ;;" for it in program.commands]
+    return f"""    local -a commands
     commands=(
 {chr(10).join(names)}
     )
@@ -164,17 +180,30 @@ _hoist() {{
     ((CURRENT--))
     case $words[1] in
 {chr(10).join(rows)}
-    esac
+    esac"""
+
+
+def zsh(program):
+    one = "    " + zsh_arguments(program.commands[0])
+    return f"""#compdef {program.name}
+# Completion of {program.name} for zsh.
+_{program.name}() {{
+{zsh_of_commands(program) if program.commands[0].name else one}
 }}
-_hoist "$@"
+_{program.name} "$@"
 """
 
 
-def fish():
-    lines = ["# Completion of hoist for fish.", "complete -c hoist -f"]
-    for command in COMMANDS:
-        lines.append(f"complete -c hoist -n __fish_use_subcommand -a {command.name} -d {quoted(command.brief)}")
-        seen = f"complete -c hoist -n '__fish_seen_subcommand_from {command.name}'"
+def fish(program):
+    here = f"complete -c {program.name}"
+    lines = [f"# Completion of {program.name} for fish."]
+    if program.commands[0].name:
+        lines.append(f"{here} -f")
+    for command in program.commands:
+        seen = here
+        if command.name:
+            lines.append(f"{here} -n __fish_use_subcommand -a {command.name} -d {quoted(command.brief)}")
+            seen = f"{here} -n '__fish_seen_subcommand_from {command.name}'"
         if takes_files(command):
             lines.append(f"{seen} -F")
         for it in command.options:
@@ -183,10 +212,11 @@ def fish():
 
 
 def pages(when):
-    """Each page under its place in a package."""
-    return {
-        "share/man/man1/hoist.1": man_page(when),
-        "share/bash-completion/completions/hoist": bash(),
-        "share/zsh/site-functions/_hoist": zsh(),
-        "share/fish/vendor_completions.d/hoist.fish": fish(),
-    }
+    """Each page of each program under its place in a package."""
+    found = {}
+    for program in map(TABLES.get, PROGRAMS):
+        found[f"share/man/man1/{program.name}.1"] = man_page(program, when)
+        found[f"share/bash-completion/completions/{program.name}"] = bash(program)
+        found[f"share/zsh/site-functions/_{program.name}"] = zsh(program)
+        found[f"share/fish/vendor_completions.d/{program.name}.fish"] = fish(program)
+    return found

@@ -1,14 +1,14 @@
-"""The words of `hoist`: its commands with their words and options, its statuses, its limits.
+"""The programs, and the words of each: its commands with their words and options, its statuses, its limits.
 
-The man page and the completions of every shell are made of this table, and `check` holds it against a program.
+The man pages and the completions of every shell are made of these tables, and `check` holds them against a program.
 """
 
 from typing import NamedTuple
 
 VERSION = "0.1"
 
-# Commands of the table below that the program hasn't got. They are in no page.
-ABSENT = frozenset()
+# The programs that are built and packed, each the crate of its name. Each has a table in TABLES.
+PROGRAMS = ("hoist", "hoist_prove")
 
 
 class Option(NamedTuple):
@@ -22,7 +22,8 @@ class Option(NamedTuple):
 
 
 class Command(NamedTuple):
-    """A command: its words, its options, what it does in a few words, and whole sentences."""
+    """A command: its words, its options, what it does in a few words, and whole sentences. A program with one form
+    alone has one command, without a name."""
 
     name: str
     words: tuple
@@ -44,7 +45,7 @@ GREATEST_SEED = 4_294_967_295
 WORKERS = Option("workers", 1, 64, 4, "How many workers search. The printed bytes are the same for each number.")
 BUDGET = Option("budget", 0, 20000, 20000, "How many questions the tree of the proof may ask.")
 
-TABLE = (
+COMMANDS = (
     Command(
         "solve",
         ("FILE",),
@@ -114,8 +115,6 @@ TABLE = (
         "Solves the line of each file of the list, and prints the answers in the order of the list.",
     ),
 )
-COMMANDS = tuple(it for it in TABLE if it.name not in ABSENT)
-
 
 class Status(NamedTuple):
     """An exit status: its number, what it says in general, and what it says of single commands."""
@@ -209,6 +208,77 @@ ENVIRONMENT = (
 )
 
 
+class Program(NamedTuple):
+    """A program: what it is in a few words, paragraphs about it, and all that its man page lists."""
+
+    name: str
+    brief: str
+    text: tuple
+    commands: tuple
+    statuses: tuple
+    environment: tuple
+    examples: tuple
+
+
+HOIST = Program(
+    "hoist",
+    "plans, checks and runs electroplating lines with hoists",
+    (
+        "A line is a row of tanks on one track, served by hoists that can't overtake one another. Carriers go from "
+        "stage to stage, and each stage has a least dwell and may have a greatest. hoist looks for a timetable "
+        "that repeats with the least period, and proves that no timetable has a smaller one.",
+        "An option is two words, --budget and its number, or one, --budget=N. It stands at most once, anywhere "
+        "behind the command. A number is decimal digits without a sign or a leading zero. All other words that "
+        "begin with a dash ask nothing, --help and --version among them.",
+    ),
+    COMMANDS,
+    STATUSES,
+    ENVIRONMENT,
+    (
+        ("hoist solve lines/two_stations.toml > answer", "solves a line"),
+        ("hoist check lines/two_stations.toml answer", "checks the answer"),
+        ("hoist chart lines/two_stations.toml answer", "draws it"),
+    ),
+)
+
+PROVE = Program(
+    "hoist_prove",
+    "finds short proofs of the least period of an electroplating line",
+    (
+        "hoist_prove looks for a timetable of the line of FILE that repeats with the least period, and for a short "
+        "proof that no timetable has a smaller one. It prints an answer of the form that hoist solve prints, which it "
+        "checks, as hoist check does, before the first byte is printed. Where the search ends without a proof, the "
+        "answer is open: its bound is proved, and its timetable, where there is one, is legal.",
+        "The option is two words, --nodes and its number, or one, --nodes=N. It stands at most once, before or behind "
+        "FILE. A number is decimal digits without a sign or a leading zero. All other words that begin with a dash ask "
+        "nothing, --help and --version among them.",
+    ),
+    (
+        Command(
+            "",
+            ("FILE",),
+            (Option("nodes", 0, 1_000_000_000, 300_000, "How many nodes the search may try."),),
+            "find a short proof",
+            "",
+        ),
+    ),
+    (
+        Status(0, "The timetable has the least period."),
+        Status(1, "No legal timetable has a period up to max_period."),
+        Status(2, "The words ask nothing; the usage is printed."),
+        Status(3, "The search ended first. No legal timetable has a period below the bound."),
+        *(it for it in STATUSES if it.number in (4, 6, 7, 8, 9)),
+    ),
+    (),
+    (
+        ("hoist_prove lines/thirteen_stages.toml > answer", "proves the least period of a line"),
+        ("hoist check lines/thirteen_stages.toml answer", "checks the answer"),
+    ),
+)
+
+TABLES = {it.name: it for it in (HOIST, PROVE)}
+
+
 def words_of(commands):
     """The words that these commands take, each once, in the order of their table."""
     return [it for it in WORDS if any(it in command.words for command in commands)]
@@ -225,7 +295,8 @@ def asked(command):
     return " ".join([*command.words, *(f"[--{it.name} N]" for it in command.options)])
 
 
-def usage():
+def usage(program):
     """What the program prints where its words ask nothing."""
-    heads = ["usage:"] + ["      "] * (len(COMMANDS) - 1)
-    return "".join(f"{head} hoist {it.name} {asked(it)}\n" for head, it in zip(heads, COMMANDS))
+    heads = ["usage:"] + ["      "] * (len(program.commands) - 1)
+    forms = [" ".join(filter(None, (program.name, it.name, asked(it)))) for it in program.commands]
+    return "".join(f"{head} {form}\n" for head, form in zip(heads, forms))

@@ -13,7 +13,7 @@ use Rattle.choice_tree.specs.Nodes.{node_at, children_of, IsLeft, IsLeaf, IsChil
 use Rattle.choice_tree.specs.Trees.{IsTree, preorder}
 use Rattle.choice_tree.proofs.NodeLemmas.{length-numbers_from}
 use Rattle.choice_tree.proofs.OrderLemmas.{below, below_step}
-use Rattle.choice_tree.proofs.SplitLemmas.{split_is_tree, end_is_tree}
+use Rattle.choice_tree.proofs.SplitLemmas.{split_is_tree, end_is_tree, root_tree}
 use Rattle.answer_text.specs.Limits.{most_children}
 use Rattle.answer_text.specs.Nodes.{node_text, tree_text, IsNodeText}
 use Rattle.answer_read.specs.declared.row.Row.{Row}
@@ -188,25 +188,8 @@ grown_is_tree single (row ∷ rows) (i ∷ waiting) nodes f g tree left distinct
     (placed_is_tree nodes i row tree left.0.0 left.0.1 few (omega (arith, room, forest_count (length (next_waiting nodes row waiting)) rows more, next)))
     (next_left nodes i row waiting left.1 distinct.0) (next_distinct nodes row waiting left.1 distinct.1) (omega (arith, room, next, length_placed nodes i row))
 
-one_is_tree : IsTree (Left None ∷ [])
-one_is_tree = record {
-  root = omega arith;
-  small = omega arith;
-  few = λ i. omega (arith, none i);
-  later = λ i m j h. absurd (no_child i m j h);
-  one_parent = λ i m i' m' j h h'. absurd (no_child i m j h);
-  has_parent = λ j above there. absurd (omega (arith, above, there));
-}
-  where
-    none : (i : ℕ) → length (children_of (node_at (Left None ∷ []) i)) ≡ 0
-    none zero = refl
-    none (suc i) = refl
-
-    no_child : (i m j : ℕ) → IsChild (Left None ∷ []) i m j → ⊥
-    no_child i m j h = omega (arith, h.there, none i)
-
 pub tree_is_tree : (single : Bool) (rows : List Row) → IsForest arity 1 rows → AllByRecursion (IsRow single) rows → length rows < 2 ^ 32 → IsTree (tree_of rows)
-tree_is_tree single rows f g few = grown_is_tree single rows (0 ∷ []) (Left None ∷ []) f g one_is_tree ((omega arith, tt), tt) (tt, tt) (omega (arith, few))
+tree_is_tree single rows f g few = grown_is_tree single rows (0 ∷ []) (Left None ∷ []) f g root_tree ((omega arith, tt), tt) (tt, tt) (omega (arith, few))
 
 -- ---- its lines and its numbers
 

@@ -5,8 +5,6 @@ mod answer;
 mod lines;
 mod row;
 mod table;
-#[cfg(test)]
-mod tests;
 mod tree;
 
 pub use answer::{AnswerRead, read_answer};

@@ -7,8 +7,6 @@ mod parts;
 mod reads;
 mod single;
 mod solving;
-#[cfg(test)]
-mod tests;
 
 pub use batches::{batch, batch_text};
 pub use single::{Single, Singles, Text};

@@ -10,6 +10,7 @@ use Rattle.choice_tree.specs.Nodes.{node_at, IsLeft, NoneLeft, SomeLeft, childre
 use Rattle.choice_tree.specs.Trees.{IsTree}
 use Rattle.choice_tree.proofs.PathLemmas.{one_path}
 use Rattle.choice_tree.proofs.NodeLemmas.{split_is_not_left}
+use Rattle.choice_tree.proofs.SplitLemmas.{root_tree}
 use Rattle.path_constraints.specs.Questions.{FitsPath}
 use Rattle.path_constraints.specs.Proves.{Shows, Proves}
 use Rattle.answer_text.specs.Nodes.{IsNodeText}
@@ -153,29 +154,9 @@ bound_whole l s bound b none = ⊎_elim (λ e. e) (λ r. absurd (omega (arith, r
 
 -- ---- the root
 
-no_children : (i : ℕ) → children_of (node_at (Left None ∷ []) i) ≡ []
-no_children zero = refl
-no_children (suc i) = refl
-
 root_left : (i : ℕ) → IsLeft (node_at (Left None ∷ []) i)
 root_left zero = tt
 root_left (suc i) = tt
-
-root_tree : IsTree (Left None ∷ [])
-root_tree = record {
-  root = omega arith;
-  small = omega arith;
-  few = λ i. omega (arith, ap (λ (cs : List ℕ). length cs) (no_children i));
-  later = λ i m j h. absurd (none i m j h);
-  one_parent = λ i m i' m' j h h'. absurd (none i m j h);
-  has_parent = λ j some lt. absurd (omega (arith, some, lt));
-}
-  where
-    none : (i m j : ℕ) → IsChild (Left None ∷ []) i m j → ⊥
-    none i m j h =
-        let There : List ℕ → Type 0 = λ cs. m < length cs in
-        let lt = subst There (no_children i) h.there in
-        omega (arith, lt)
 
 pub root_path : (i : ℕ) (path : List Decision) → IsPathTo (Left None ∷ []) i path → path ≡ []
 root_path i [] leads = refl

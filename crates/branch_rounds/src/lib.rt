@@ -11,8 +11,6 @@ mod rounds;
 mod searching;
 mod state;
 mod taking;
-#[cfg(test)]
-mod tests;
 mod workers;
 
 pub use outcome::Outcome;

@@ -18,8 +18,8 @@ use std::marker::Model;
 use std::thread::Threads;
 use worker_pool::run_in;
 
-/// A third worker and each further one has to have so many paths: the start of a thread costs as much as some of them.
-const SHARE: usize = 8;
+/// A third worker and each further one has to have so many paths: a thread costs as much as the expansions of some of them.
+const SHARE: usize = 32;
 
 /// 1 to 64 workers of one line, seen as that line. `base` is the line's system before any decision. Where one worker is
 /// enough for a round, that is `expander`, and no thread is started. Else each worker has one of the `rooms`, which are

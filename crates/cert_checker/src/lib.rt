@@ -9,12 +9,8 @@ mod nodes;
 mod passed;
 mod periods;
 mod reason;
-#[cfg(test)]
-mod tests;
 mod tree;
 mod walks;
-#[cfg(test)]
-mod writable;
 
 pub use checked::{Checked, Claimed};
 pub use checking::check;

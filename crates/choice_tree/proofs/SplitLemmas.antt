@@ -1,5 +1,5 @@
 -- A tree stays a tree when a node that is left becomes a leaf or a split.
-use Rattle.std.proofs.Common.{⊎_elim, ◌≡◌, ◌≢◌, ℕ, ◌+◌, ◌-◌, ◌^◌, ◌<◌, ◌≤◌, List, [], ◌∷◌, ◌++◌, length, get_or, set, replicate, refl, sym, ◌∙◌, ap, subst, arith, Some, None}
+use Rattle.std.proofs.Common.{⊎_elim, ◌≡◌, ◌≢◌, ℕ, zero, suc, ◌+◌, ◌-◌, ◌^◌, ◌<◌, ◌≤◌, List, [], ◌∷◌, ◌++◌, length, get_or, set, replicate, refl, sym, ◌∙◌, ap, subst, arith, Some, None}
 use Rattle.std.proofs.lemmas.List.{get_or_past, get_or-set_same, get_or-set_other, length-set, length-append, length-replicate, get_or_append_left, get_or-append_right, get_or-replicate}
 use Rattle.std.proofs.lemmas.Bool.{cases_lt, cases_eq}
 use Rattle.choice_tree.specs.declared.question.Question.{Question}
@@ -188,3 +188,25 @@ origins_push origins n q count o h parent question child = record {
       (ap (λ (x : Origin). x.parent) same ∙ parent, ap (λ (x : Origin). x.decision.question) same ∙ question, ap (λ (x : Origin). x.decision.child) same ∙ child ∙ omega (arith, h.count, at_end)))
       (cases_lt m (length origins));
 }
+
+-- ---- the root alone
+
+-- a tree whose root is left has no children
+pub no_children : (i : ℕ) → children_of (node_at (Left None ∷ []) i) ≡ []
+no_children zero = refl
+no_children (suc i) = refl
+
+pub root_tree : IsTree (Left None ∷ [])
+root_tree = record {
+  root = omega arith;
+  small = omega arith;
+  few = λ i. omega (arith, ap (λ (cs : List ℕ). length cs) (no_children i));
+  later = λ i m j h. absurd (none i m j h);
+  one_parent = λ i m i' m' j h h'. absurd (none i m j h);
+  has_parent = λ j some lt. absurd (omega (arith, some, lt));
+}
+  where
+    none : (i m j : ℕ) → IsChild (Left None ∷ []) i m j → ⊥
+    none i m j h =
+        let There : List ℕ → Type 0 = λ cs. m < length cs in
+        omega (arith, subst There (no_children i) h.there)

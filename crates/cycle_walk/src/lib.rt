@@ -7,8 +7,6 @@ mod going_back;
 pub mod laws;
 mod links;
 mod sums;
-#[cfg(test)]
-mod tests;
 mod walks;
 
 pub use climbing::{Climbed, climb, climb_in};

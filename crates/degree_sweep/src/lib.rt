@@ -7,8 +7,6 @@ pub mod laws;
 mod report;
 mod rows;
 mod swept;
-#[cfg(test)]
-mod tests;
 
 pub use degrees::sweep;
 pub use report::sweep_text;

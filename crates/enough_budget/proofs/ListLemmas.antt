@@ -1,10 +1,9 @@
 -- Lists that hold what is different, and how long they are.
 use Rattle.std.proofs.Common.{⊎_elim, inl, inr, ◌⊎◌, ◌≡◌, ℕ, zero, suc, ◌+◌, ◌*◌, ◌<◌, ◌≤◌, List, [], ◌∷◌, length, Bool, true, false, cond, sym, ◌∙◌, ap, subst, arith, Some}
-use Rattle.std.specs.Prelude.{filter, flat_map, slice_get}
+use Rattle.std.specs.Prelude.{flat_map, slice_get}
 use Rattle.std.specs.List.{list_any}
 use Rattle.std.proofs.lemmas.List.{length-append}
 use Rattle.std.proofs.lemmas.List.Folds.{list_any_at}
-use Rattle.std.proofs.lemmas.List.Sums.{length-filter, count_by-le-length}
 use Rattle.list_facts.proofs.Elements.{greatest_first, greatest_rest}
 use Rattle.path_constraints.specs.Tanks.{greatest_of}
 use Rattle.path_constraints.proofs.NameLemmas.{In, place_in, contains_in}
@@ -45,20 +44,6 @@ few_different f (suc n) xs differ there =
     (λ i lt. ⊎_elim (λ same. absurd (differ i n lt (omega arith) (sym same))) (λ other. other) (r.others (f i) (there i (omega (arith, lt))))) in
     omega (arith, fewer, r.shorter)
 
-pub in_filter : {A : Type 0} (test : A → Bool) (xs : List A) (x : A) → In xs x → test x ≡ true → In (filter test xs) x
-in_filter test [] x h e = absurd h
-in_filter {A = A} test (y ∷ ys) x h e =
-    ⊎_elim
-    (λ here.
-    let P : Bool → Type 0 = λ b. In (cond b (y ∷ filter test ys) (filter test ys)) x in
-    subst P (sym (ap test here ∙ e)) (inl here))
-    (λ more. either (test y) (filter test ys) (in_filter test ys x more e))
-    h
-  where
-    either : (b : Bool) (zs : List A) → In zs x → In (cond b (y ∷ zs) zs) x
-    either true zs k = inr k
-    either false zs k = k
-
 pub any_in : {A : Type 0} (test : A → Bool) (xs : List A) (x : A) → In xs x → test x ≡ true → list_any test xs ≡ true
 any_in test xs x h e = let r = place_in xs x x h in list_any_at test xs r.0 x r.1 (ap test r.2 ∙ e)
 
@@ -68,9 +53,6 @@ in_got (y ∷ ys) zero x e = let same : y ≡ x = cc in inl same
 in_got (y ∷ ys) (suc n) x e = inr (in_got ys n x e)
 
 -- ---- how long a list is, and how great its numbers
-
-pub few_filter : {A : Type 0} (test : A → Bool) (xs : List A) → length (filter test xs) ≤ length xs
-few_filter test xs = omega (arith, length-filter test xs, count_by-le-length test xs)
 
 pub rows_length : {A B : Type 0} (row : A → List B) (n : ℕ) (xs : List A) → ((x : A) → length (row x) ≡ n) → length (flat_map row xs) ≡ length xs * n
 rows_length row n [] each = omega arith

@@ -12,7 +12,7 @@ use Rattle.hoist_base.specs.Valid.{IsLine}
 use Rattle.hoist_base.specs.declared.ids.MoveId.{MoveId}
 use Rattle.hoist_base.specs.declared.ids.VisitId.{VisitId}
 use Rattle.hoist_base.specs.declared.stage.Stage.{Stage}
-use Rattle.hoist_base.proofs.NumberLemmas.{move_below, visit_below}
+use Rattle.hoist_base.proofs.NumberLemmas.{move_below, move_named, visit_below, visit_named}
 use Rattle.line_model.specs.declared.motion.Motion.{Motion}
 use Rattle.line_model.specs.Motion.{motion_between}
 use Rattle.collision_pairs.specs.declared.span.Span.{Span}
@@ -26,14 +26,14 @@ use Rattle.path_constraints.specs.declared.rides.Ride.{Ride}
 use Rattle.path_constraints.specs.Hoists.{assigned_of, hoist_by, hoists_by, hoists_reaching, hoists_below, ride_below, clash_between, clash_below}
 use Rattle.path_constraints.specs.Questions.{IsBefore, FitsPath, ShareTank, MayClash, offset_of}
 use Rattle.path_constraints.specs.Ticks.{tick_at}
-use Rattle.path_constraints.proofs.NameLemmas.{In, in_left, in_right, in_map, in_flat_map, in_numbers, in_contains}
+use Rattle.path_constraints.proofs.NameLemmas.{In, in_left, in_right, in_map, in_flat_map, in_filter, in_numbers, in_contains}
 use Rattle.path_constraints.proofs.Settled.{settled_motion, settled_ride, settled_clash}
 use Rattle.path_constraints.proofs.SpreadLemmas.{keeps_all}
 use Rattle.node_expand.proofs.SettledLemmas.{some_one, some_children, tank_serves}
 use Rattle.enough_budget.specs.Depth.{pairs, has_choice, has_hoists, motions_of, share, shares, rides_of, sizes_of, clash_sizes, greatest_size, greatest_shift, depth}
 use Rattle.enough_budget.specs.Asked.{IsAskedBelow, IsAskedPath}
 use Rattle.enough_budget.proofs.AgainLemmas.{asked_fits}
-use Rattle.enough_budget.proofs.ListLemmas.{in_filter, any_in, in_got, rows_length, in_greatest}
+use Rattle.enough_budget.proofs.ListLemmas.{any_in, in_got, rows_length, in_greatest}
 use Rattle.enough_budget.proofs.NearLemmas.{one_tank, some_period}
 use Rattle.enough_budget.proofs.ShiftLemmas.{tank_shift, hoist_shift}
 
@@ -110,25 +110,6 @@ in_pairs count i j lt lt' =
     let row : ℕ → List (ℕ × ℕ) = λ k. map (λ h. (h, k)) (numbers_from 0 k) in
     in_flat_map row (numbers_from 0 count) j (i, j) (in_numbers 0 count j (omega arith) (omega (arith, lt')))
     (in_map (λ h. (h, j)) (numbers_from 0 j) i (in_numbers 0 j i (omega arith) (omega (arith, lt))))
-
-visit_named : (l : LineData) (v : VisitId) → IsVisit l v.carrier v.stage → visit_at l (visit_number l v.carrier v.stage) ≡ v
-visit_named l v there =
-    let m = length l.stages in
-    ap (λ (x : ℕ). the_visit x ((v.carrier * m + v.stage) % m)) (div-mul-add v.carrier m v.stage there.1)
-    ∙ ap (λ (y : ℕ). the_visit v.carrier y) (mod-mul-add v.carrier m v.stage there.1)
-  where
-    the_visit : ℕ → ℕ → VisitId
-    the_visit x y = record { carrier = x; stage = y }
-
-move_named : (l : LineData) (m : MoveId) → IsMove l m.carrier m.step → move_at l (move_number l m.carrier m.step) ≡ m
-move_named l m there =
-    let n = last_stage l in
-    let below : m.step < n = omega (arith, there.1) in
-    ap (λ (x : ℕ). the_move x ((m.carrier * n + m.step) % n)) (div-mul-add m.carrier n m.step below)
-    ∙ ap (λ (y : ℕ). the_move m.carrier y) (mod-mul-add m.carrier n m.step below)
-  where
-    the_move : ℕ → ℕ → MoveId
-    the_move x y = record { carrier = x; step = y }
 
 numbers_rise : (c k c' k' m : ℕ) → k < m → IsBefore c k c' k' → c * m + k < c' * m + k'
 numbers_rise c k c' k' m small before =

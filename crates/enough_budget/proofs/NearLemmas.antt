@@ -20,30 +20,26 @@ use Rattle.path_constraints.specs.Holds.{begin_of, end_of, tick_of}
 use Rattle.path_constraints.specs.Constraints.{Keeps, entry_arc, visit_arc}
 use Rattle.path_constraints.specs.Questions.{IsOpenVisit}
 use Rattle.path_constraints.proofs.Settled.{motions_are, low_is, high_is}
+use Rattle.path_constraints.proofs.TankLemmas.{one_by}
 use Rattle.path_constraints.proofs.SpreadLemmas.{KeepsAll, at_move, carrier_spread, first_spread}
 use Rattle.period_constraints.specs.Order.{kind_of, IsFirstQuestion}
 use Rattle.node_expand.specs.Settled.{HasTanks}
-use Rattle.node_expand.proofs.SettledLemmas.{some_one}
+use Rattle.node_expand.proofs.SettledLemmas.{some_is, some_one}
 
 -- ---- tanks
-
-one_by : (tanks : List ℕ) (o : Option ℕ) → 1 ≤ length tanks → (o ≡ None → length tanks < 2) → IsSome (one_of (tanks_by tanks o))
-one_by tanks (Some n) some few = refl
-one_by [] None some few = absurd (omega (arith, some))
-one_by (x ∷ []) None some few = refl
-one_by (x ∷ y ∷ ys) None some few = absurd (omega (arith, few refl))
 
 -- where the first question isn't a choice of a tank, each visit has one
 pub one_tank : (l : LineData) (path : List Decision) (s : ℕ → ℤ) (period : ℕ) (x : Question) → IsLine l → IsFirstQuestion l path s period (Some x)
     → 0 < kind_of x → HasTanks l path
 one_tank l path s period x line first later c k visit =
-    one_by (stage l k).tanks (choice_of path c k) (line.stages.count k visit.1).0
+    some_is (tank_below l path c k) _
+    (one_by (stage l k).tanks (choice_of path c k) (line.stages.count k visit.1).0
     (λ free. ⊎_elim (λ lt. lt)
     (λ several.
     let v : VisitId = record { carrier = c; stage = k } in
     let open_yet : IsOpenVisit l path v = record { visit = visit; several = several; open_yet = free } in
     absurd (first.2 (Choose v) (record { stands = open_yet; fails = tt }) (inl later)))
-    (cases_lt (length (stage l k).tanks) 2))
+    (cases_lt (length (stage l k).tanks) 2)))
 
 -- ---- durations
 

@@ -1,7 +1,8 @@
 -- How long the paths of a search are, and how many children their questions have.
 use Rattle.std.proofs.Common.{⊎_elim, ◌≡◌, ℕ, ◌<◌, ◌≤◌, List, [], ◌∷◌, ◌++◌, length, map, take, sym, ◌∙◌, ap, subst, arith, Some, None}
-use Rattle.std.specs.Prelude.{Option}
+use Rattle.std.specs.Prelude.{Bool, Option, filter}
 use Rattle.std.proofs.lemmas.Bool.{cases_lt}
+use Rattle.std.proofs.lemmas.List.Sums.{length-filter, count_by-le-length}
 use Rattle.std.proofs.lemmas.List.{length-append, take-append-le, take-take, get_or-take, length-take}
 use Rattle.std.proofs.Math.Seq.{take-append_seam, get_or-append_seam}
 use Rattle.std.proofs.Math.ListN.{get_or-append}
@@ -23,7 +24,7 @@ use Rattle.enough_budget.specs.Depth.{depth, most_children}
 use Rattle.enough_budget.specs.Asked.{IsAskedBelow, IsAskedDecision, IsAskedPath}
 use Rattle.enough_budget.specs.Laws.{HasFewChildren, StaysAbove}
 use Rattle.enough_budget.proofs.AgainLemmas.{never_again}
-use Rattle.enough_budget.proofs.ListLemmas.{few_different, few_filter, in_greatest}
+use Rattle.enough_budget.proofs.ListLemmas.{few_different, in_greatest}
 use Rattle.enough_budget.proofs.ListedLemmas.{all_questions, questions_length, listed}
 
 -- ---- one decision more, and fewer
@@ -84,7 +85,10 @@ stays_above l path question line asked below =
 -- no more hoists reach a move than there are
 few_hoists : (l : LineData) (o : Option Motion) → length (hoists_by l o) ≤ l.hoists
 few_hoists l None = omega arith
-few_hoists l (Some m) = omega (arith, few_filter (λ h. reaches_motion l h m) (numbers_from 0 l.hoists), length-numbers_from 0 l.hoists)
+few_hoists l (Some m) =
+    let reaches : ℕ → Bool = λ h. reaches_motion l h m in
+    let hoists = numbers_from 0 l.hoists in
+    omega (arith, length-filter reaches hoists, count_by-le-length reaches hoists, length-numbers_from 0 l.hoists)
 
 few_children : (l : LineData) (path : List Decision) (question : Question) → IsAskedBelow l path question → child_count l path question ≤ most_children l
 few_children l path (Assign m) below = omega (arith, few_hoists l (motion_below l path m.carrier m.step))

@@ -5,14 +5,12 @@ ghost use Rattle.hoist_base.specs.LineData.{IsStageOf, IsVisit};
 ghost use Rattle.hoist_base.specs.LineData as lines;
 ghost use Rattle.line_model.specs.Legal.{IsLegal};
 ghost use Rattle.timetable.specs.TimetableData.{timetable_of, FitsLine};
-ghost use Rattle.timetable.specs.Faults as faults;
 ghost use Rattle.gantt_report.specs.DwellTable as tables;
 
 use crate::places::{push_number_right, push_right, push_signed_right};
-use hoist_base::{Line, MoveId, VisitId};
-use move_list::{duration, motion_of};
+use hoist_base::{Line, VisitId};
 use std::alloc::{AllocError, Global};
-use timetable::Timetable;
+use timetable::{Timetable, dwell, least_dwell};
 
 // The bytes that the columns take.
 const CARRIER_WIDTH: usize = 4;
@@ -112,61 +110,5 @@ fn push_window(text: &mut Vec<u8>, line: &Line, k: u32) -> Result<(), AllocError
     match line.stages()[k as usize].max {
         None => push_right(text, TICKS_WIDTH, b"-"),
         Some(most) => push_number_right(text, TICKS_WIDTH, most as u64),
-    }
-}
-
-// The ticks that a carrier rests in its tank: from when it is put on or set down until it is lifted or taken off.
-fn dwell(line: &Line, t: &Timetable, v: VisitId) -> i64
-    requires fits { FitsLine line.now t.now }
-    requires there { IsVisit line.now v.carrier v.stage }
-    ensures { result ≡ faults.dwell line.now (timetable_of t.now) v.carrier v.stage }
-{
-    departure(line, t, v) as i64 - arrival(line, t, v) as i64
-}
-
-// The tick at which a carrier begins to rest in its tank.
-fn arrival(line: &Line, t: &Timetable, v: VisitId) -> u64
-    requires fits { FitsLine line.now t.now }
-    requires there { IsVisit line.now v.carrier v.stage }
-    ensures value { result ≡ faults.arrival line.now (timetable_of t.now) v.carrier v.stage }
-    ensures small { result ≤ 1000002000 }
-{
-    if v.stage == 0 {
-        return t.put(v.carrier);
-    }
-    let m = MoveId {
-        carrier: v.carrier,
-        step: v.stage - 1,
-    };
-    t.start(m) + duration(motion_of(line, t.route(), m)) as u64
-}
-
-// The tick at which it is lifted there, or taken off.
-fn departure(line: &Line, t: &Timetable, v: VisitId) -> u64
-    requires fits { FitsLine line.now t.now }
-    requires there { IsVisit line.now v.carrier v.stage }
-    ensures value { result ≡ faults.departure line.now (timetable_of t.now) v.carrier v.stage }
-    ensures small { result ≤ 1000000000 }
-{
-    if v.stage == line.inner() + 1 {
-        return t.off(v.carrier);
-    }
-    t.start(MoveId {
-        carrier: v.carrier,
-        step: v.stage,
-    })
-}
-
-// The least dwell at a stage, and at the stations.
-fn least_dwell(line: &Line, k: u32) -> u32
-    requires { IsStageOf line.now k }
-    ensures { result ≡ faults.least_dwell line.now k }
-{
-    if k == 0 {
-        line.load()
-    } else if k == line.inner() + 1 {
-        line.unload()
-    } else {
-        line.stages()[k as usize].min
     }
 }

@@ -6,8 +6,6 @@ mod dwell;
 pub mod laws;
 mod marks;
 mod places;
-#[cfg(test)]
-mod tests;
 
 pub use drawing::chart;
 pub use dwell::dwell_table;

@@ -2,8 +2,9 @@
 use Rattle.std.proofs.Common.{⊎_elim, ◌≡◌, ℕ, suc, ◌+◌, ◌*◌, ◌/◌, ◌%◌, ◌<◌, length, ap, sym, ◌∙◌, mod-eq_of_lt, arith}
 use Rattle.std.proofs.Math.Nat.{div-eq_of_lt}
 use Rattle.std.proofs.lemmas.Bool.{cases_lt}
-use Rattle.std.proofs.lemmas.Nat.{mul-le, div-add-mod', mod_below}
+use Rattle.std.proofs.lemmas.Nat.{mul-le, div-mul-add, mod-mul-add, div-add-mod', mod_below}
 use Rattle.hoist_base.specs.declared.ids.MoveId.{MoveId}
+use Rattle.hoist_base.specs.declared.ids.VisitId.{VisitId}
 use Rattle.hoist_base.specs.LineData.{LineData, last_stage, IsMove, IsVisit, move_number, move_count, move_at, visit_number, visit_count, visit_at}
 use Rattle.hoist_base.specs.Valid.{IsLine}
 
@@ -33,6 +34,22 @@ number_of_move l i = div-add-mod' i (last_stage l)
 
 pub number_of_visit : (l : LineData) (i : ℕ) → visit_number l (visit_at l i).carrier (visit_at l i).stage ≡ i
 number_of_visit l i = div-add-mod' i (length l.stages)
+
+-- and what stands at the number of a name is what has that name
+pub visit_named : (l : LineData) (v : VisitId) → IsVisit l v.carrier v.stage → visit_at l (visit_number l v.carrier v.stage) ≡ v
+visit_named l v there =
+    let m = length l.stages in
+    let with_carrier : ℕ → VisitId = λ x. record { carrier = x; stage = (v.carrier * m + v.stage) % m } in
+    let with_stage : ℕ → VisitId = λ x. record { carrier = v.carrier; stage = x } in
+    ap with_carrier (div-mul-add v.carrier m v.stage there.1) ∙ ap with_stage (mod-mul-add v.carrier m v.stage there.1)
+
+pub move_named : (l : LineData) (m : MoveId) → IsMove l m.carrier m.step → move_at l (move_number l m.carrier m.step) ≡ m
+move_named l m there =
+    let n = last_stage l in
+    let below : m.step < n = omega (arith, there.1) in
+    let with_carrier : ℕ → MoveId = λ x. record { carrier = x; step = (m.carrier * n + m.step) % n } in
+    let with_step : ℕ → MoveId = λ x. record { carrier = m.carrier; step = x } in
+    ap with_carrier (div-mul-add m.carrier n m.step below) ∙ ap with_step (mod-mul-add m.carrier n m.step below)
 
 pub move_below : (l : LineData) (c k : ℕ) → IsMove l c k → move_number l c k < move_count l
 move_below l c k move = place_below c k l.degree (last_stage l) move.0 (omega (arith, move.1))

@@ -30,7 +30,8 @@ fn reply_to<R: Threads + Sync, F: Shelf, G: Gate>(
     shelf: &mut F,
     gate: &G,
 ) -> Result<Reply, Stop>
-    ensures { Gives (IsReply (reading (F.files shelf.old) (F.faults shelf.old) (F.faults shelf.new)) (words_of words.now)) result }
+    ensures { Gives (IsReply (reading (F.files shelf.old) (F.faults shelf.old) (F.faults shelf.new))
+        (words_of words.now)) result }
 {
     let Some(request) = read_words(alloc, words)? else {
         let reply = usage_reply(alloc)?;
@@ -93,8 +94,8 @@ fn reply_to<R: Threads + Sync, F: Shelf, G: Gate>(
 /// - `check` with the status `Done`: the answer's timetable, where it has one, is legal, its tree proves its bound, and so no
 ///   legal timetable of the line has a smaller period. With `Negative` the first reason to reject it is printed.
 /// - `run`, `chart` and `margin` with the status `Done`: the answer's timetable is legal, and the log of its run, or its chart
-///   and then its dwell table, or the margin of its windows, is printed. With `Negative` the answer has no timetable, or an illegal one, whose first fault is
-///   printed. The tree of the answer isn't looked at.
+///   and then its dwell table, or the margin of its windows, is printed. With `Negative` the answer has no timetable, or an
+///   illegal one, whose first fault is printed. The tree of the answer isn't looked at.
 /// - `drill`, always with the status `Done`: the printed text is that of the line of the seed and of its answer.
 /// - `sweep`: the printed text is that of the answers at each degree, and no legal timetable of a degree has a period below
 ///   the bound of its row. With `Done` no row is open, and no legal timetable of these degrees, of a period that the line
@@ -114,16 +115,26 @@ pub fn hoist<R: Threads + Sync, F: Shelf, K: Sink, G: Gate>(
     sink: &mut K,
     gate: &G,
 ) -> Status
-    ensures done { result ≡ Status.Done → IsDone (reading (F.files shelf.old) (F.faults shelf.old) (F.faults shelf.new)) (words_of words.now) (K.written sink.old) (K.written sink.new) }
-    ensures negative { result ≡ Status.Negative → IsNegative (reading (F.files shelf.old) (F.faults shelf.old) (F.faults shelf.new)) (words_of words.now) (K.written sink.old) (K.written sink.new) }
-    ensures unfinished { result ≡ Status.Unfinished → IsOpen (reading (F.files shelf.old) (F.faults shelf.old) (F.faults shelf.new)) (words_of words.now) (K.written sink.old) (K.written sink.new) }
+    ensures done { result ≡ Status.Done
+        → IsDone (reading (F.files shelf.old) (F.faults shelf.old) (F.faults shelf.new)) (words_of words.now)
+        (K.written sink.old) (K.written sink.new) }
+    ensures negative { result ≡ Status.Negative
+        → IsNegative (reading (F.files shelf.old) (F.faults shelf.old) (F.faults shelf.new)) (words_of words.now)
+        (K.written sink.old) (K.written sink.new) }
+    ensures unfinished { result ≡ Status.Unfinished
+        → IsOpen (reading (F.files shelf.old) (F.faults shelf.old) (F.faults shelf.new)) (words_of words.now)
+        (K.written sink.old) (K.written sink.new) }
     ensures reply { (result ≡ Status.Write) ⊎ ((result ≡ Status.Memory)
-        ⊎ ((text : List ℕ) × IsReply (reading (F.files shelf.old) (F.faults shelf.old) (F.faults shelf.new)) (words_of words.now) result text × (K.written sink.new ≡ appended (K.written sink.old) text))) }
+        ⊎ ((text : List ℕ)
+        × IsReply (reading (F.files shelf.old) (F.faults shelf.old) (F.faults shelf.new)) (words_of words.now) result text
+        × (K.written sink.new ≡ appended (K.written sink.old) text))) }
     ensures words { result ≡ Status.Words → AskNothing (words_of words.now) }
-    ensures nothing { AskNothing (words_of words.now) → (result ≡ Status.Words) ⊎ ((result ≡ Status.Write) ⊎ (result ≡ Status.Memory)) }
+    ensures nothing { AskNothing (words_of words.now) → (result ≡ Status.Words)
+        ⊎ ((result ≡ Status.Write) ⊎ (result ≡ Status.Memory)) }
     ensures read { result ≡ Status.Read → Rose (F.faults shelf.old) (F.faults shelf.new) }
     ensures write { result ≡ Status.Write → Rose (K.faults sink.old) (K.faults sink.new) }
-    ensures memory { result ≡ Status.Memory → (K.written sink.new ≡ K.written sink.old) ⊎ Rose (K.wants sink.old) (K.wants sink.new) }
+    ensures memory { result ≡ Status.Memory → (K.written sink.new ≡ K.written sink.old)
+        ⊎ Rose (K.wants sink.old) (K.wants sink.new) }
     ensures prefix { (result ≡ Status.Write) ⊎ (result ≡ Status.Memory)
         → (K.written sink.new ≡ K.written sink.old) ⊎ ((status : Status) × (text : List ℕ) × (n : ℕ)
         × IsReply (reading (F.files shelf.old) (F.faults shelf.old) (F.faults shelf.new)) (words_of words.now) status text

@@ -1,3 +1,4 @@
 pub mod ReadingLemmas
 pub mod RequestLemmas
+pub mod WordLemmas
 pub mod WalkLemmas

@@ -26,7 +26,8 @@ use Rattle.hoist_words.specs.declared.table.Limits.{Limits}
 use Rattle.hoist_words.specs.declared.numbers.Numbers.{Numbers}
 use Rattle.hoist_words.specs.declared.requests.Request.{Request}
 use Rattle.hoist_words.proofs.ReadingLemmas.{options_tail, known_name, one_reading}
-use Rattle.hoist_words.proofs.WalkLemmas.{said_rows, first_in, option_read, first_read, second_read, limits_of, values_for, at_most_two, some_file}
+use Rattle.hoist_words.proofs.WordLemmas.{said_rows}
+use Rattle.hoist_words.proofs.WalkLemmas.{first_in, option_read, first_read, second_read, limits_of, values_for, at_most_two, some_file}
 
 -- lists of words
 

@@ -8,8 +8,6 @@ pub mod laws;
 mod numbers;
 mod requests;
 mod table;
-#[cfg(test)]
-mod tests;
 mod words;
 
 pub use numbers::number_within;

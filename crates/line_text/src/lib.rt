@@ -7,8 +7,6 @@ mod parts;
 mod read;
 mod refusal;
 mod tables;
-#[cfg(test)]
-mod tests;
 mod texts;
 mod values;
 mod why;

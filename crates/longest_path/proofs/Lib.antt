@@ -6,4 +6,3 @@ pub mod NearLemmas
 pub mod RowLemmas
 pub mod LeastLemmas
 pub mod SettleLemmas
-pub mod TestLemmas

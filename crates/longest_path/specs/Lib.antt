@@ -6,5 +6,4 @@ pub mod Answer
 pub mod Laws
 pub mod Room
 pub mod Start
-pub mod Chain
 pub mod Bounds

@@ -9,8 +9,6 @@ mod room;
 mod rounds;
 mod settling;
 mod systems;
-#[cfg(test)]
-mod tests;
 
 pub use least_ticks::{LeastTicks, least, least_in};
 pub use room::{Near, Room, Step};

@@ -12,7 +12,6 @@ pub mod Lives
 pub mod LoopLaws
 pub mod RuleLemmas
 pub mod CheckLemmas
-pub mod TestLemmas
 pub mod SeenLemmas
 pub mod ReadLemmas
 pub mod MoveLemmas

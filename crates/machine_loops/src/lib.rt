@@ -4,13 +4,9 @@
 mod checking;
 pub mod laws;
 mod looping;
-#[cfg(test)]
-mod plans;
 mod reading;
 mod rules;
 mod seen;
-#[cfg(test)]
-mod tests;
 
 pub use looping::{Looped, every_loop};
 pub use rules::keeps;

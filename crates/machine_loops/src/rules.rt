@@ -8,26 +8,19 @@ ghost use Rattle.tick_machine.specs.Layout.{layout_of, move_between, move_place}
 ghost use Rattle.tick_machine.specs.Scene.{scene_of, IsSized, hold_of};
 ghost use Rattle.tick_machine.specs.Points.{length_of};
 ghost use Rattle.tick_machine.specs.Rules.{AreApart, CarryRule, RestRule, HoldRule, IsFrame};
-ghost use Rattle.machine_loops.specs.RuleTests.{CarryKeeps, HoldKeeps, Leaves, Comes, CarriesOnlyAt, RestsOnlyAt, CarriesNot, CarriesAlone, RestsAlone};
+ghost use Rattle.machine_loops.specs.RuleTests.{CarryKeeps, HoldKeeps, Leaves, Comes, CarriesOnlyAt, RestsOnlyAt};
+ghost use Rattle.machine_loops.specs.RuleTests.{CarriesNot, CarriesAlone, RestsAlone};
 
 use hoist_base::Line;
 use move_list::{Motion, duration, place};
 use tick_machine::{Carry, Frame, Hold, Rest};
 
-pub(crate) fn is_sized(line: &Line, frame: &Frame) -> bool
-    ensures value { IsTrue result ↔ IsSized line.now frame.now }
-    ensures valid { IsLine line.now }
-{
-    let hoists = line.hoists() as usize;
-    frame.at.len() == hoists
-        && frame.carry.len() == hoists
-        && frame.hold.len() == line.tanks().len()
-}
-
 /// Whether a hoist is on the track, and the next one at least the gap above it.
 fn is_apart(line: &Line, at: &[u32], h: usize) -> bool
     requires hoist { h < length at.now }
-    ensures { IsTrue result ↔ ((get_or at.now h 0 ≤ line.now.track) × (h + 1 < length at.now → get_or at.now h 0 + line.now.gap ≤ get_or at.now (h + 1) 0)) }
+    ensures { IsTrue result
+        ↔ ((get_or at.now h 0 ≤ line.now.track)
+        × (h + 1 < length at.now → get_or at.now h 0 + line.now.gap ≤ get_or at.now (h + 1) 0)) }
 {
     at[h] <= line.track() && (h + 1 >= at.len() || at[h] + line.gap() <= at[h + 1])
 }
@@ -59,7 +52,9 @@ fn serves(line: &Line, tank: u32, stage: u32) -> bool
 /// Whether a carry is by a move of the line.
 #[tactic(auto, using(crate::proofs::RuleLemmas::served_there))]
 fn is_move(line: &Line, y: Carry) -> bool
-    ensures value { IsTrue result ↔ ((y.step < last_stage line.now) × ((layout_of line.now).serves y.from y.step ≡ true) × ((layout_of line.now).serves y.to (y.step + 1) ≡ true)) }
+    ensures value { IsTrue result
+        ↔ ((y.step < last_stage line.now) × ((layout_of line.now).serves y.from y.step ≡ true)
+        × ((layout_of line.now).serves y.to (y.step + 1) ≡ true)) }
     ensures there { IsTrue result → (y.from < length line.now.tanks) × (y.to < length line.now.tanks) × (y.step ≤ 30) }
 {
     y.step <= line.inner() && serves(line, y.from, y.step) && serves(line, y.to, y.step + 1)
@@ -87,7 +82,9 @@ fn motion_of(line: &Line, y: Carry) -> Motion
 fn is_on_way(line: &Line, motion: Motion, y: Carry, at: u32) -> bool
     requires value { motion ≡ move_between (layout_of line.now) y.step y.from y.to }
     requires motion { IsMotion motion }
-    ensures { IsTrue result ↔ ((y.elapsed < length_of (layout_of line.now) y) × (at ≡ move_place (layout_of line.now) y.step y.from y.to y.elapsed)) }
+    ensures { IsTrue result
+        ↔ ((y.elapsed < length_of (layout_of line.now) y)
+        × (at ≡ move_place (layout_of line.now) y.step y.from y.to y.elapsed)) }
 {
     y.elapsed < duration(motion) && at == place(motion, y.elapsed)
 }
@@ -102,7 +99,8 @@ fn is_held(frame: &Frame, tank: u32, x: Hold) -> bool
 /// Whether the tank that a carrier leaves is held by it exactly while it is lifted.
 fn lifts_out(frame: &Frame, y: Carry, lift: u32) -> bool
     requires { y.from < length frame.now.hold.items }
-    ensures { IsTrue result ↔ ((get_or frame.now.hold.items y.from None ≡ Some (hold_of y.carrier y.step Lifting)) ↔ (y.elapsed < lift)) }
+    ensures { IsTrue result
+        ↔ ((get_or frame.now.hold.items y.from None ≡ Some (hold_of y.carrier y.step Lifting)) ↔ (y.elapsed < lift)) }
 {
     let lifted = Hold {
         carrier: y.carrier,
@@ -119,7 +117,9 @@ fn lowers_in(frame: &Frame, y: Carry, long: u32, lower: u32) -> bool
     requires elapsed { y.elapsed < long }
     requires long { long ≤ 2000 }
     requires lower { lower ≤ 500 }
-    ensures { IsTrue result ↔ ((get_or frame.now.hold.items y.to None ≡ Some (hold_of y.carrier (y.step + 1) Lowering)) ↔ (long ≤ y.elapsed + lower)) }
+    ensures { IsTrue result
+        ↔ ((get_or frame.now.hold.items y.to None ≡ Some (hold_of y.carrier (y.step + 1) Lowering))
+        ↔ (long ≤ y.elapsed + lower)) }
 {
     let lowered = Hold {
         carrier: y.carrier,
@@ -180,7 +180,8 @@ fn leaves(frame: &Frame, h: usize, tank: u32, carrier: u64, step: u32) -> bool
 
 /// Whether a hoist carries a carrier by its move of a step out of a tank.
 fn is_left(frame: &Frame, tank: u32, carrier: u64, step: u32) -> bool
-    ensures { IsTrue result ↔ ((h : ℕ) × (h < length frame.now.carry.items) × Leaves (scene_of frame.now) tank carrier step h) }
+    ensures { IsTrue result
+        ↔ ((h : ℕ) × (h < length frame.now.carry.items) × Leaves (scene_of frame.now) tank carrier step h) }
 {
     for h in 0..frame.carry.len() {
         if leaves(frame, h, tank, carrier, step) {
@@ -204,7 +205,8 @@ fn comes(frame: &Frame, h: usize, tank: u32, carrier: u64, stage: u32) -> bool
 
 /// Whether a hoist carries a carrier to a stage, into a tank.
 fn is_reached(frame: &Frame, tank: u32, carrier: u64, stage: u32) -> bool
-    ensures { IsTrue result ↔ ((h : ℕ) × (h < length frame.now.carry.items) × Comes (scene_of frame.now) tank carrier stage h) }
+    ensures { IsTrue result
+        ↔ ((h : ℕ) × (h < length frame.now.carry.items) × Comes (scene_of frame.now) tank carrier stage h) }
 {
     for h in 0..frame.carry.len() {
         if comes(frame, h, tank, carrier, stage) {
@@ -260,7 +262,8 @@ fn hold_keeps_at(line: &Line, frame: &Frame, tank: u32) -> bool
 
 fn holds_keep(line: &Line, frame: &Frame) -> bool
     requires { IsSized line.now frame.now }
-    ensures { IsTrue result ↔ ((i : ℕ) → i < length line.now.tanks → HoldKeeps (layout_of line.now) (scene_of frame.now) i) }
+    ensures { IsTrue result
+        ↔ ((i : ℕ) → i < length line.now.tanks → HoldKeeps (layout_of line.now) (scene_of frame.now) i) }
 {
     for tank in 0..line.tanks().len() as u32 {
         if !hold_keeps_at(line, frame, tank) {
@@ -282,7 +285,8 @@ fn carries_only_at(frame: &Frame, carrier: u64, h: usize, j: usize) -> bool
 
 /// Whether no hoist but `h` carries a carrier.
 fn no_other_carries(frame: &Frame, carrier: u64, h: usize) -> bool
-    ensures { IsTrue result ↔ ((j : ℕ) → j < length frame.now.carry.items → CarriesOnlyAt (scene_of frame.now) carrier h j) }
+    ensures { IsTrue result
+        ↔ ((j : ℕ) → j < length frame.now.carry.items → CarriesOnlyAt (scene_of frame.now) carrier h j) }
 {
     for j in 0..frame.carry.len() {
         if !carries_only_at(frame, carrier, h, j) {
@@ -304,7 +308,9 @@ fn carries_alone(frame: &Frame, h: usize) -> bool
 
 /// Whether each carrier is carried by at most one hoist.
 fn carry_alone(frame: &Frame) -> bool
-    ensures { IsTrue result ↔ ((h : ℕ) → h < length frame.now.carry.items → CarriesAlone (scene_of frame.now) (length frame.now.carry.items) h) }
+    ensures { IsTrue result
+        ↔ ((h : ℕ) → h < length frame.now.carry.items
+        → CarriesAlone (scene_of frame.now) (length frame.now.carry.items) h) }
 {
     for h in 0..frame.carry.len() {
         if !carries_alone(frame, h) {
@@ -332,7 +338,8 @@ fn rests_only_at(frame: &Frame, carrier: u64, i: usize, j: usize) -> bool
 
 /// Whether a carrier rests in no tank but `i`.
 fn no_other_rests(frame: &Frame, carrier: u64, i: usize) -> bool
-    ensures { IsTrue result ↔ ((j : ℕ) → j < length frame.now.hold.items → RestsOnlyAt (scene_of frame.now) carrier i j) }
+    ensures { IsTrue result
+        ↔ ((j : ℕ) → j < length frame.now.hold.items → RestsOnlyAt (scene_of frame.now) carrier i j) }
 {
     for j in 0..frame.hold.len() {
         if !rests_only_at(frame, carrier, i, j) {
@@ -366,7 +373,8 @@ fn none_carries(frame: &Frame, carrier: u64) -> bool
 
 fn rests_alone(frame: &Frame, i: usize) -> bool
     requires { i < length frame.now.hold.items }
-    ensures { IsTrue result ↔ RestsAlone (scene_of frame.now) (length frame.now.carry.items) (length frame.now.hold.items) i }
+    ensures { IsTrue result
+        ↔ RestsAlone (scene_of frame.now) (length frame.now.carry.items) (length frame.now.hold.items) i }
 {
     match frame.hold[i] {
         Some(
@@ -382,7 +390,9 @@ fn rests_alone(frame: &Frame, i: usize) -> bool
 
 /// Whether each carrier rests in at most one tank, and isn't carried then.
 fn rest_alone(frame: &Frame) -> bool
-    ensures { IsTrue result ↔ ((i : ℕ) → i < length frame.now.hold.items → RestsAlone (scene_of frame.now) (length frame.now.carry.items) (length frame.now.hold.items) i) }
+    ensures { IsTrue result
+        ↔ ((i : ℕ) → i < length frame.now.hold.items
+        → RestsAlone (scene_of frame.now) (length frame.now.carry.items) (length frame.now.hold.items) i) }
 {
     for i in 0..frame.hold.len() {
         if !rests_alone(frame, i) {
@@ -400,7 +410,7 @@ pub fn keeps(line: &Line, frame: &Frame) -> bool
     ensures rules { IsTrue result ↔ IsFrame line.now frame.now }
     ensures valid { IsLine line.now }
 {
-    if !is_sized(line, frame) {
+    if !frame.is_sized(line) {
         return false;
     }
     if !are_apart(line, frame) {

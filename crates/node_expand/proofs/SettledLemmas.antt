@@ -3,6 +3,7 @@ use Rattle.std.proofs.Common.{⊎_elim, inl, inr, ◌≡◌, ◌≢◌, ℕ, zer
 use Rattle.std.specs.Prelude.{Option, IsSome, slice_get, filter, Contains, option_map}
 use Rattle.std.proofs.lemmas.List.{length-append, get_or_append_left, get_or-append_right}
 use Rattle.std.proofs.lemmas.List.Elements.{Contains-get_or}
+use Rattle.std.proofs.lemmas.List.Sums.{length-filter, count_by-le-length}
 use Rattle.std.proofs.lemmas.Bool.{cases_lt, cases_eq}
 use Rattle.std.proofs.lemmas.Nat.{mul-le, div-mul-add, mod-mul-add}
 use Rattle.hoist_base.specs.LineData.{LineData, stage, position_of, IsMove, Serves}
@@ -20,8 +21,8 @@ use Rattle.path_constraints.specs.Questions.{Stands, Fits, FitsPath, IsOpenMove,
 use Rattle.period_constraints.specs.Order.{IsFirstQuestion}
 use Rattle.path_constraints.proofs.Choices.{assigned}
 use Rattle.path_constraints.proofs.Settled.{tanks_are, motion_is, motion_stays, settled_motion, ride_is}
-use Rattle.path_constraints.proofs.TankLemmas.{choice_there}
-use Rattle.path_constraints.proofs.NameLemmas.{In, in_numbers, in_contains}
+use Rattle.path_constraints.proofs.TankLemmas.{choice_there, one_by}
+use Rattle.path_constraints.proofs.NameLemmas.{In, in_filter, in_numbers, in_contains}
 use Rattle.path_constraints.proofs.RideLemmas.{reaches_yes}
 use Rattle.node_expand.specs.Expansion.{NoneStuck}
 use Rattle.node_expand.specs.Settled.{HasTanks, HasHoists}
@@ -36,20 +37,15 @@ some_one (Some x) h = (x, refl)
 
 -- ---- tanks
 
-one_by : (tanks : List ℕ) (o : Option ℕ) → 1 ≤ length tanks → (o ≡ None → length tanks < 2) → IsSome (one_of (tanks_by tanks o))
-one_by tanks (Some n) some few = refl
-one_by [] None some few = absurd (omega (arith, some))
-one_by (x ∷ []) None some few = refl
-one_by (x ∷ y ∷ ys) None some few = absurd (omega (arith, few refl))
-
 pub tanks_settled : (l : LineData) (path : List Decision) (s : ℕ → ℤ) (period : ℕ) → IsLine l → IsFirstQuestion l path s period None → HasTanks l path
 tanks_settled l path s period line none c k visit =
-    one_by (stage l k).tanks (choice_of path c k) (line.stages.count k visit.1).0
+    some_is (tank_below l path c k) _
+    (one_by (stage l k).tanks (choice_of path c k) (line.stages.count k visit.1).0
     (λ free. ⊎_elim (λ lt. lt)
     (λ several.
     let open_yet : IsOpenVisit l path (record { carrier = c; stage = k }) = record { visit = visit; several = several; open_yet = free } in
     absurd (none (Choose (record { carrier = c; stage = k })) (record { stands = open_yet; fails = tt })))
-    (cases_lt (length (stage l k).tanks) 2))
+    (cases_lt (length (stage l k).tanks) 2)))
 
 -- the first tank as the code reads it
 pub tank_read : (l : LineData) (path : List Decision) (c k : ℕ) (ts : List ℕ) → ts ≡ tanks_below l path c k → IsSome (tank_below l path c k)
@@ -130,28 +126,9 @@ hoists_settled l path s period line fits none c k move =
 
 -- ---- children
 
-in_filter : (f : ℕ → Bool) (xs : List ℕ) (x : ℕ) → f x ≡ true → In xs x → In (filter f xs) x
-in_filter f [] x e h = absurd h
-in_filter f (y ∷ ys) x e h =
-    ⊎_elim
-    (λ here. let yes : f y ≡ true = ap f here ∙ e in let P : Bool → Type 0 = λ b. In (cond b (y ∷ filter f ys) (filter f ys)) x in subst P (sym yes) (inl here))
-    (λ more. either (f y) (filter f ys) (in_filter f ys x e more)) h
-  where
-    either : (b : Bool) (zs : List ℕ) → In zs x → In (cond b (y ∷ zs) zs) x
-    either true zs k = inr k
-    either false zs k = k
-
 some_in : (xs : List ℕ) (x : ℕ) → In xs x → 1 ≤ length xs
 some_in [] x h = absurd h
 some_in (y ∷ ys) x h = omega arith
-
-few_filter : (p : ℕ → Bool) (xs : List ℕ) → length (filter p xs) ≤ length xs
-few_filter p [] = omega arith
-few_filter p (x ∷ xs) = at_head (p x) (few_filter p xs)
-  where
-    at_head : (b : Bool) → length (filter p xs) ≤ length xs → length (cond b (x ∷ filter p xs) (filter p xs)) ≤ length (x ∷ xs)
-    at_head true le = omega (arith, le)
-    at_head false le = omega (arith, le)
 
 -- some hoist reaches a move with one motion that some hoist may reach
 reached_by_some : (l : LineData) (path : List Decision) (c k : ℕ) (m : Motion) → NoneStuck l path → IsMove l c k → motion_below l path c k ≡ Some m
@@ -168,7 +145,7 @@ reached_by_some l path c k m free move is zero_is =
     let both : ReachesMotion l h (motion_between l k r.from r.to) = (subst S (sym only_from) reach.0.2, subst S (sym only_to) reach.1.2) in
     let M : Motion → Type 0 = λ x. ReachesMotion l h x in
     let yes = reaches_yes l h m (subst M (sym r.is) both) in
-    let there = in_filter (λ g. reaches_motion l g m) (numbers_from 0 l.hoists) h yes (in_numbers 0 l.hoists h (omega arith) (omega (arith, lt))) in
+    let there = in_filter (λ g. reaches_motion l g m) (numbers_from 0 l.hoists) h (in_numbers 0 l.hoists h (omega arith) (omega (arith, lt))) yes in
     omega (arith, zero_is, some_in (hoists_reaching l m) h there))
   where
     the_one : (xs : List ℕ) (t i : ℕ) → xs ≡ t ∷ [] → Contains xs i → t ≡ i
@@ -184,7 +161,9 @@ some_children l path (Assign m) line free f =
     let count = ap (λ (hs : List ℕ). length hs) list in
     let some : length (hoists_reaching l found.0) ≡ 0 → ⊥ = reached_by_some l path m.carrier m.step found.0 free f.stands.move found.1 in
     let several = f.stands.several in
-    let few = few_filter (λ g. reaches_motion l g found.0) (numbers_from 0 l.hoists) in
+    let reaches : ℕ → Bool = λ g. reaches_motion l g found.0 in
+    let hoists = numbers_from 0 l.hoists in
+    let few : length (filter reaches hoists) ≤ length hoists = omega (arith, length-filter reaches hoists, count_by-le-length reaches hoists) in
     let all = length-numbers_from 0 l.hoists in
     (omega (arith, count, some, several), omega (arith, count, few, all, line.limits.hoists.1))
 some_children l path (TankOrder a b q) line free f = (omega arith, omega arith)

@@ -10,8 +10,6 @@ mod path_system;
 mod settling;
 mod solved;
 mod stuck;
-#[cfg(test)]
-mod tests;
 
 pub use expanded::Expanded;
 pub use expander::{Expander, expand, expand_on};

@@ -12,7 +12,6 @@ pub mod BaseLemmas
 pub mod DecideLemmas
 pub mod SpreadLemmas
 pub mod FailLemmas
-pub mod TestLemmas
 pub mod WorkedRows
 pub mod CoverTankLemmas
 pub mod CoverTrackLemmas

@@ -1,6 +1,6 @@
 -- Which constraints a path has: the list holds exactly those that are named so.
 use Rattle.std.proofs.Common.{⊎_elim, inl, inr, ◌⊎◌, ◌≡◌, ℕ, zero, suc, ◌+◌, ◌<◌, ◌≤◌, List, [], ◌∷◌, ◌++◌, length, get_or, map, Bool, true, false, cond, refl, sym, ◌∙◌, ap, subst, arith}
-use Rattle.std.specs.Prelude.{flat_map, is_some, IsSome, Contains}
+use Rattle.std.specs.Prelude.{filter, flat_map, is_some, IsSome, Contains}
 use Rattle.std.proofs.lemmas.Bool.{cases_lt}
 use Rattle.hoist_base.specs.LineData.{LineData, stage, last_stage, last_step}
 use Rattle.choice_tree.specs.declared.question.Question.{Question}
@@ -52,6 +52,20 @@ pub from_map : {A B : Type 0} (f : A → B) (xs : List A) (t : B) → In (map f 
 from_map f [] t h = absurd h
 from_map f (y ∷ ys) t h =
     ⊎_elim (λ e. (y, inl refl, e)) (λ more. let r = from_map f ys t more in (r.0, inr r.1, r.2)) h
+
+pub in_filter : {A : Type 0} (test : A → Bool) (xs : List A) (x : A) → In xs x → test x ≡ true → In (filter test xs) x
+in_filter test [] x h e = absurd h
+in_filter {A = A} test (y ∷ ys) x h e =
+    ⊎_elim
+    (λ here.
+    let P : Bool → Type 0 = λ b. In (cond b (y ∷ filter test ys) (filter test ys)) x in
+    subst P (sym (ap test here ∙ e)) (inl here))
+    (λ more. either (test y) (filter test ys) (in_filter test ys x more e))
+    h
+  where
+    either : (b : Bool) (zs : List A) → In zs x → In (cond b (y ∷ zs) zs) x
+    either true zs k = inr k
+    either false zs k = k
 
 pub in_numbers : (first count x : ℕ) → first ≤ x → x < first + count → In (numbers_from first count) x
 in_numbers first zero x le lt = absurd (omega (arith, le, lt))

@@ -1,6 +1,6 @@
 -- The tanks of a visit below a path, as the code reads them.
 use Rattle.std.proofs.Common.{⊎_elim, ◌⊎◌, ◌≡◌, ◌≢◌, ℕ, zero, suc, ◌+◌, ◌<◌, List, [], ◌∷◌, ◌++◌, length, get_or, take, drop, map, refl, sym, ◌∙◌, ap, subst, arith, Some, None}
-use Rattle.std.specs.Prelude.{Option, flat_map, fold}
+use Rattle.std.specs.Prelude.{Option, flat_map, fold, unwrap_or}
 use Rattle.std.proofs.lemmas.List.{drop_more, map-append, get_or_default}
 use Rattle.std.proofs.lemmas.List.Elements.{Contains-get_or}
 use Rattle.std.proofs.lemmas.List.Sums.{fold-append}
@@ -36,6 +36,14 @@ choice_there l path c k n fits e =
 -- a stage's tanks are the line's
 pub tank_there : (l : LineData) (k i : ℕ) → IsLine l → i < length (stage l k).tanks → get_or (stage l k).tanks i 0 < length l.tanks
 tank_there l k i line lt = line.stages.there k (get_or (stage l k).tanks i 0) (Contains-get_or (stage l k).tanks i 0 lt)
+
+-- a visit whose tank is chosen, or whose stage has one tank, has one tank
+pub one_by : (tanks : List ℕ) (o : Option ℕ) → 0 < length tanks → (o ≡ None → length tanks < 2)
+    → one_of (tanks_by tanks o) ≡ Some (get_or tanks (unwrap_or o 0) 0)
+one_by tanks (Some n) some few = refl
+one_by [] None some few = absurd (omega (arith, some))
+one_by (x ∷ []) None some few = refl
+one_by (x ∷ y ∷ ys) None some few = absurd (omega (arith, few refl))
 
 -- one element of a list
 pub one_at : (xs : List ℕ) (n : ℕ) → n < length xs → take 1 (drop n xs) ≡ get_or xs n 0 ∷ []

@@ -11,8 +11,6 @@ mod rides;
 mod stuck;
 mod systems;
 mod tanks;
-#[cfg(test)]
-mod tests;
 mod times;
 
 pub use failing::{fails, tick_of};

@@ -6,8 +6,6 @@ mod duties;
 mod point;
 mod rows;
 mod slots;
-#[cfg(test)]
-mod tests;
 mod tracing;
 
 pub use point::{Point, Traced};

@@ -4,7 +4,7 @@ use Rattle.std.specs.Prelude.{unsigned_abs}
 use Rattle.std.proofs.lemmas.Int.{ints}
 use Rattle.std.proofs.lemmas.Nat.{mul-le, div-mul-add, mod-mul-add, div-add-mod'}
 use Rattle.hoist_base.specs.LineData.{LineData, last_stage, IsMove, IsVisit, visit_at, move_at}
-use Rattle.hoist_base.proofs.NumberLemmas.{move_below, visit_below}
+use Rattle.hoist_base.proofs.NumberLemmas.{move_below, move_named, visit_below, visit_named}
 use Rattle.hoist_base.specs.declared.ids.MoveId.{MoveId}
 use Rattle.hoist_base.specs.declared.ids.VisitId.{VisitId}
 use Rattle.choice_tree.specs.declared.question.Question.{Question}
@@ -41,27 +41,6 @@ names_below c k c' k' i j m small small' before =
     (λ both. inr (same_number c k i m same.0 both.0, name_below c' k' j m small' both.1))
     same.1)
     before
-
--- a visit or a move is that of its number
-visit_named : (l : LineData) (v : VisitId) → IsVisit l v.carrier v.stage → visit_at l (v.carrier * length l.stages + v.stage) ≡ v
-visit_named l v there =
-    let m = length l.stages in
-    let n = v.carrier * m + v.stage in
-    ap (λ (x : ℕ). the_visit x (n % m)) (div-mul-add v.carrier m v.stage there.1) ∙ ap (λ (y : ℕ). the_visit v.carrier y)
-    (mod-mul-add v.carrier m v.stage there.1)
-  where
-    the_visit : ℕ → ℕ → VisitId
-    the_visit x y = record { carrier = x; stage = y }
-
-move_named : (l : LineData) (m : MoveId) → IsMove l m.carrier m.step → move_at l (m.carrier * last_stage l + m.step) ≡ m
-move_named l m there =
-    let n = last_stage l in
-    let below : m.step < n = omega (arith, there.1) in
-    ap (λ (x : ℕ). the_move x ((m.carrier * n + m.step) % n)) (div-mul-add m.carrier n m.step below) ∙ ap (λ (y : ℕ). the_move m.carrier y)
-    (mod-mul-add m.carrier n m.step below)
-  where
-    the_move : ℕ → ℕ → MoveId
-    the_move x y = record { carrier = x; step = y }
 
 -- ---- what is asked of visits and moves is asked of their numbers
 

@@ -1,6 +1,7 @@
 -- What is asked below a path, from the tanks and the hoists that it settles.
-use Rattle.std.proofs.Common.{◌≡◌, ◌≢◌, ℕ, ◌+◌, ◌-◌, ◌*◌, ◌/◌, ◌%◌, ◌<◌, ◌≤◌, List, [], ◌∷◌, length, get_or, refl, sym, ◌∙◌, ap, subst, arith, ℤ, Some, None}
+use Rattle.std.proofs.Common.{⊎_elim, ◌≡◌, ◌≢◌, ℕ, ◌+◌, ◌-◌, ◌*◌, ◌/◌, ◌%◌, ◌<◌, ◌≤◌, List, [], ◌∷◌, length, get_or, refl, sym, ◌∙◌, ap, subst, arith, ℤ, Some, None}
 use Rattle.std.specs.Prelude.{Option, IsSome, IsSomeAnd, unwrap_or, option_and_then, option_map, ◌<ℤ◌, neg_ℤ}
+use Rattle.std.proofs.lemmas.Bool.{cases_lt}
 use Rattle.std.proofs.lemmas.Int.{ints}
 use Rattle.std.proofs.lemmas.Nat.{div-add-mod', div-mul-add, mod-mul-add}
 use Rattle.hoist_base.specs.LineData.{LineData, stage, last_stage, last_step, move_number, move_count, IsMove, IsVisit, visit_count, visit_at, move_at}
@@ -16,6 +17,7 @@ use Rattle.path_constraints.specs.declared.rides.Ride.{Ride}
 use Rattle.path_constraints.specs.Hoists.{assigned_of, hoist_by, hoists_by, hoists_reaching, ride_below, clash_below}
 use Rattle.path_constraints.specs.Questions.{FitsPath, offset_of}
 use Rattle.path_constraints.specs.Places.{system_below}
+use Rattle.path_constraints.proofs.TankLemmas.{one_by}
 use Rattle.period_constraints.specs.Pairs.{Pair, IsFirstPair, IsOpenVisitAt, IsOpenMoveAt, IsFirstNumber, IsAskedTank, IsAskedHoist}
 use Rattle.period_constraints.specs.Marks.{AreChoices, AreAssigned, IsOpenByChoices, place_by, HaveTanks, AreChosen}
 use Rattle.path_constraints.specs.declared.holds.Moment.{Moment}
@@ -80,16 +82,6 @@ open_at : (l : LineData) (path : List Decision) (choices : List (Option ℕ)) �
     → IsOpenByChoices l choices i
 open_at l path choices h i x = (x.0, x.1.several, h.1 i x.0 ∙ x.1.open_yet)
 
-one_of_one : (xs : List ℕ) → 0 < length xs → (2 ≤ length xs → ⊥) → one_of xs ≡ Some (get_or xs 0 0)
-one_of_one [] some few = absurd (omega (arith, some))
-one_of_one (x ∷ []) some few = refl
-one_of_one (x ∷ y ∷ ys) some few = absurd (few (omega arith))
-
-one_by : (tanks : List ℕ) (o : Option ℕ) → 0 < length tanks → (2 ≤ length tanks → o ≡ None → ⊥)
-    → one_of (tanks_by tanks o) ≡ Some (get_or tanks (unwrap_or o 0) 0)
-one_by tanks None some few = one_of_one tanks some (λ many. few many refl)
-one_by tanks (Some n) some few = refl
-
 -- each visit has one tank below the path
 pub record AreSettled (l : LineData) (path : List Decision) (tanks : List ℕ) : Type 0 where
   pub only : (c k : ℕ) → IsVisit l c k → tank_below l path c k ≡ Some (get_or tanks (c * length l.stages + k) 0)
@@ -104,7 +96,8 @@ settled_at l path choices tanks i line marks chosen none lt =
     let ts = (stage l v.stage).tanks in
     let is = marks.1 i lt in
     ap (λ (o : Option ℕ). one_of (tanks_by ts o)) (sym is)
-    ∙ one_by ts (get_or choices i None) (omega (arith, (line.stages.count v.stage visit.1).0)) (λ many e. none i (lt, many, e))
+    ∙ one_by ts (get_or choices i None) (omega (arith, (line.stages.count v.stage visit.1).0))
+    (λ e. ⊎_elim (λ few. few) (λ many. absurd (none i (lt, many, e))) (cases_lt (length ts) 2))
     ∙ ap (λ (n : ℕ). Some n) (sym (chosen.each i lt))
 
 pub settled : (l : LineData) (path : List Decision) (choices : List (Option ℕ)) (tanks : List ℕ) → IsLine l → AreChoices l path choices

@@ -7,8 +7,6 @@ mod marks;
 mod pairs;
 mod starts;
 mod stays;
-#[cfg(test)]
-mod tests;
 
 pub use asking::first_question;
 pub use lookup::Lookup;

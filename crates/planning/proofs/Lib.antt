@@ -6,4 +6,3 @@ pub mod Agreement
 pub mod Holding
 pub mod Legality
 pub mod PlanData
-pub mod TestLemmas

@@ -2,7 +2,5 @@
 #![tactic(auto)]
 
 mod planner;
-#[cfg(test)]
-mod tests;
 
 pub use planner::plan;

@@ -1,4 +1,4 @@
-//! The worked rows of the whole program, over files in memory.
+//! The worked rows of the whole programs, over files in memory.
 #![tactic(auto)]
 
 #[cfg(test)]
@@ -13,6 +13,8 @@ mod further;
 mod lines;
 #[cfg(test)]
 mod pictures;
+#[cfg(test)]
+mod proofs;
 #[cfg(test)]
 mod runs;
 #[cfg(test)]

@@ -24,7 +24,7 @@ pub(crate) enum Worked {
 
 impl Worked {
     /// The line itself.
-    fn line(self, alloc: Global) -> Option<Line> {
+    pub(crate) fn line(self, alloc: Global) -> Option<Line> {
         match self {
             Worked::TwoStations => two_stations(alloc),
             Worked::OneBath => one_bath(alloc),

@@ -1,6 +1,7 @@
-// Runs of the top call over files in memory.
+// Runs of the top calls over files in memory.
 use hoist_cli::{Status, hoist};
 use outside::{MemoryShelf, MemorySink, OpenGate, Shelf, Sink, SteadyShelf, SteadySink};
+use prove_cli::hoist_prove;
 use std::alloc::{AllocError, Global};
 use std::test::Fail;
 use std::thread::Threads;
@@ -45,7 +46,7 @@ pub(crate) struct Printed {
     pub(crate) text: Vec<u8>,
 }
 
-/// How the command ends over this shelf and this sink.
+/// How the command, of the program that its first word names, ends over this shelf and this sink.
 fn end_of<R: Threads + Sync, F: Shelf, K: Sink>(
     rt: &R,
     alloc: Global,
@@ -54,6 +55,9 @@ fn end_of<R: Threads + Sync, F: Shelf, K: Sink>(
     sink: &mut K,
 ) -> Result<Status, AllocError> {
     let words = words_of(alloc, command)?;
+    if command.starts_with("hoist_prove") {
+        return Ok(hoist_prove(rt, alloc, words.as_slice(), shelf, sink));
+    }
     Ok(hoist(rt, alloc, words.as_slice(), shelf, sink, &OpenGate))
 }
 

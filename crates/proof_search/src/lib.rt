@@ -16,8 +16,6 @@ mod question;
 mod search;
 mod share_question;
 mod state;
-#[cfg(test)]
-mod tests;
 mod tree;
 mod tree_text;
 

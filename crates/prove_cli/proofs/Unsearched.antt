@@ -6,6 +6,7 @@ use Rattle.line_model.specs.Legal.{NoneBelow}
 use Rattle.choice_tree.specs.declared.node.Node.TheVariants.{Left}
 use Rattle.choice_tree.specs.Nodes.{node_at, children_of, IsChild}
 use Rattle.choice_tree.specs.Trees.{IsTree}
+use Rattle.choice_tree.proofs.SplitLemmas.{root_tree}
 use Rattle.branch_rounds.specs.declared.outcome.Outcome.{Outcome}
 use Rattle.branch_rounds.specs.Grown.{IsReached, IsGrown}
 use Rattle.answer_text.specs.declared.answer.Verdict.{Verdict}
@@ -19,28 +20,6 @@ use Rattle.read_back.proofs.Lengths.{text_is_short}
 use Rattle.solve_line.specs.AnswerOf.{IsSolution, verdict_by}
 use Rattle.solve_line.specs.Claims.{KeepsClaim, ClaimOf}
 use Rattle.prove_cli.specs.Proved.{IsKept}
-
--- ---- the root alone
-
-no_children : (i : ℕ) → children_of (node_at (Left None ∷ []) i) ≡ []
-no_children zero = refl
-no_children (suc i) = refl
-
-no_child : (i m j : ℕ) → IsChild (Left None ∷ []) i m j → ⊥
-no_child i m j h =
-    let There : List ℕ → Type 0 = λ cs. m < length cs in
-    let lt = subst There (no_children i) h.there in
-    omega (arith, lt)
-
-root_tree : IsTree (Left None ∷ [])
-root_tree = record {
-  root = omega arith;
-  small = omega arith;
-  few = λ i. omega (arith, ap (λ (cs : List ℕ). length cs) (no_children i));
-  later = λ i m j h. absurd (no_child i m j h);
-  one_parent = λ i m i' m' j h h'. absurd (no_child i m j h);
-  has_parent = λ j some lt. absurd (omega (arith, some, lt));
-}
 
 -- ---- the search
 

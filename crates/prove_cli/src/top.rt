@@ -38,7 +38,8 @@ fn prove_file<R: Threads + Sync, F: Shelf>(
     shelf: &mut F,
 ) -> Result<Reply, Stop>
     requires { nodes ≤ 1000000000 }
-    ensures { Gives (AfterLine (reading (F.files shelf.old) (F.faults shelf.old) (F.faults shelf.new)) file.now IsProved) result }
+    ensures { Gives (AfterLine
+        (reading (F.files shelf.old) (F.faults shelf.old) (F.faults shelf.new)) file.now IsProved) result }
 {
     let line = line_in(alloc, file, shelf)?;
     let bytes = propose(alloc, &line, nodes)?;
@@ -53,7 +54,8 @@ fn reply_to<R: Threads + Sync, F: Shelf>(
     words: &[String],
     shelf: &mut F,
 ) -> Result<Reply, Stop>
-    ensures { Gives (IsReply (reading (F.files shelf.old) (F.faults shelf.old) (F.faults shelf.new)) (words_of words.now)) result }
+    ensures { Gives (IsReply (reading (F.files shelf.old) (F.faults shelf.old) (F.faults shelf.new))
+        (words_of words.now)) result }
 {
     match read_words(words) {
         Some(asked) => prove_file(rt, alloc, asked.file, asked.nodes, shelf),
@@ -83,17 +85,27 @@ pub fn hoist_prove<R: Threads + Sync, F: Shelf, K: Sink>(
     shelf: &mut F,
     sink: &mut K,
 ) -> Status
-    ensures done { result ≡ Status.Done → IsProveRun Verdict.Optimal (reading (F.files shelf.old) (F.faults shelf.old) (F.faults shelf.new)) (words_of words.now) (K.written sink.old) (K.written sink.new) }
-    ensures negative { result ≡ Status.Negative → IsProveRun Verdict.Nothing (reading (F.files shelf.old) (F.faults shelf.old) (F.faults shelf.new)) (words_of words.now) (K.written sink.old) (K.written sink.new) }
-    ensures unfinished { result ≡ Status.Unfinished → IsProveRun Verdict.Unfinished (reading (F.files shelf.old) (F.faults shelf.old) (F.faults shelf.new)) (words_of words.now) (K.written sink.old) (K.written sink.new) }
+    ensures done { result ≡ Status.Done
+        → IsProveRun Verdict.Optimal (reading (F.files shelf.old) (F.faults shelf.old) (F.faults shelf.new))
+        (words_of words.now) (K.written sink.old) (K.written sink.new) }
+    ensures negative { result ≡ Status.Negative
+        → IsProveRun Verdict.Nothing (reading (F.files shelf.old) (F.faults shelf.old) (F.faults shelf.new))
+        (words_of words.now) (K.written sink.old) (K.written sink.new) }
+    ensures unfinished { result ≡ Status.Unfinished
+        → IsProveRun Verdict.Unfinished (reading (F.files shelf.old) (F.faults shelf.old) (F.faults shelf.new))
+        (words_of words.now) (K.written sink.old) (K.written sink.new) }
     ensures reply { (result ≡ Status.Write) ⊎ ((result ≡ Status.Memory)
-        ⊎ ((text : List ℕ) × IsReply (reading (F.files shelf.old) (F.faults shelf.old) (F.faults shelf.new)) (words_of words.now) result text × (K.written sink.new ≡ appended (K.written sink.old) text))) }
+        ⊎ ((text : List ℕ)
+        × IsReply (reading (F.files shelf.old) (F.faults shelf.old) (F.faults shelf.new)) (words_of words.now) result text
+        × (K.written sink.new ≡ appended (K.written sink.old) text))) }
     ensures words { result ≡ Status.Words → AskNoProof (words_of words.now) }
-    ensures nothing { AskNoProof (words_of words.now) → (result ≡ Status.Words) ⊎ ((result ≡ Status.Write) ⊎ (result ≡ Status.Memory)) }
+    ensures nothing { AskNoProof (words_of words.now) → (result ≡ Status.Words)
+        ⊎ ((result ≡ Status.Write) ⊎ (result ≡ Status.Memory)) }
     ensures unbroken { result ≡ Status.Broken → ⊥ }
     ensures read { result ≡ Status.Read → Rose (F.faults shelf.old) (F.faults shelf.new) }
     ensures write { result ≡ Status.Write → Rose (K.faults sink.old) (K.faults sink.new) }
-    ensures memory { result ≡ Status.Memory → (K.written sink.new ≡ K.written sink.old) ⊎ Rose (K.wants sink.old) (K.wants sink.new) }
+    ensures memory { result ≡ Status.Memory → (K.written sink.new ≡ K.written sink.old)
+        ⊎ Rose (K.wants sink.old) (K.wants sink.new) }
     ensures prefix { (result ≡ Status.Write) ⊎ (result ≡ Status.Memory)
         → (K.written sink.new ≡ K.written sink.old) ⊎ ((status : Status) × (text : List ℕ) × (n : ℕ)
         × IsReply (reading (F.files shelf.old) (F.faults shelf.old) (F.faults shelf.new)) (words_of words.now) status text

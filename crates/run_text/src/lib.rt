@@ -3,7 +3,5 @@
 
 mod events;
 mod run;
-#[cfg(test)]
-mod tests;
 
 pub use run::run_text;

@@ -4,8 +4,6 @@
 mod driving;
 pub mod laws;
 mod runner;
-#[cfg(test)]
-mod tests;
 
 pub use driving::drive;
 pub use runner::Runner;

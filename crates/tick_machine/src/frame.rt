@@ -1,7 +1,8 @@
 // Frames: the state of the line at one tick.
-ghost use Rattle.std.specs.Prelude.{◌≡◌, IfOk, length, get_or};
+ghost use Rattle.std.specs.Prelude.{◌≡◌, ◌↔◌, IfOk, IsTrue, length, get_or};
+ghost use Rattle.hoist_base.specs.Valid.{IsLine};
 ghost use Rattle.tick_machine.specs.Layout.{layout_of};
-ghost use Rattle.tick_machine.specs.Scene.{scene_of};
+ghost use Rattle.tick_machine.specs.Scene.{scene_of, IsSized};
 ghost use Rattle.tick_machine.specs.Rules.{AreApart, IsFrame};
 ghost use Rattle.tick_machine.specs.Play.{empty_scene};
 
@@ -46,6 +47,19 @@ pub struct Frame {
     pub carry: Vec<Option<Carry>>,
     pub hold: Vec<Option<Hold>>,
     pub next: u64,
+}
+
+impl Frame {
+    /// Whether the frame has a place for each hoist and each tank of the line, and no other.
+    pub fn is_sized(&self, line: &Line) -> bool
+        ensures value { IsTrue result ↔ IsSized line.now self.now }
+        ensures valid { IsLine line.now }
+    {
+        let hoists = line.hoists() as usize;
+        self.at.len() == hoists
+            && self.carry.len() == hoists
+            && self.hold.len() == line.tanks().len()
+    }
 }
 
 /// The frame with the hoists at these positions, where nothing is carried or held and carrier 0 is the next.

@@ -16,8 +16,6 @@ mod run;
 mod setting;
 mod stations;
 mod stepping;
-#[cfg(test)]
-mod tests;
 
 pub use breach::Breach;
 pub use driver::Driver;

@@ -1,4 +1,8 @@
 // Orders: what is to be done in one tick.
+ghost use Rattle.std.specs.Prelude.{IfOk};
+ghost use Rattle.tick_machine.specs.Scene.{IsSizedOrder};
+
+use std::alloc::{AllocError, Global};
 
 /// Where a hoist goes in a tick: nowhere, or one unit towards the low or the high end of the track.
 #[derive(Clone, Copy, Debug, PartialEq, Eq)]
@@ -18,4 +22,22 @@ pub struct Order {
     pub begin: Vec<Option<u32>>,
     pub off: bool,
     pub put: bool,
+}
+
+impl Order {
+    /// An order to so many hoists that leaves all of them where they are.
+    pub fn idle(alloc: Global, hoists: u32) -> Result<Order, AllocError>
+        ensures { IfOk result (IsSizedOrder hoists) }
+    {
+        let mut go = Vec::new(alloc);
+        go.resize(hoists as usize, Go::Stay)?;
+        let mut begin = Vec::new(alloc);
+        begin.resize(hoists as usize, None)?;
+        Ok(Order {
+            go,
+            begin,
+            off: false,
+            put: false,
+        })
+    }
 }

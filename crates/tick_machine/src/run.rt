@@ -38,23 +38,6 @@ fn positions<D: Driver>(alloc: Global, driver: &D, hoists: u32) -> Result<Vec<u3
     Ok(at)
 }
 
-/// An order that leaves all hoists where they are.
-pub(crate) fn idle(alloc: Global, hoists: u32) -> Result<Order, AllocError>
-    ensures { IfOk result (IsSizedOrder hoists) }
-{
-    let mut go = Vec::new(alloc);
-    go.resize(hoists as usize, Go::Stay)?;
-    let mut begin = Vec::new(alloc);
-    begin.resize(hoists as usize, None)?;
-    let order = Order {
-        go,
-        begin,
-        off: false,
-        put: false,
-    };
-    Ok(order)
-}
-
 /// Makes the step into `tick` from `old` by `order`, writes its frame over `new`, and appends its events to `log`.
 fn play_tick(
     line: &Line,
@@ -99,7 +82,7 @@ pub fn play<D: Driver>(alloc: Global, line: &Line, driver: &D) -> Result<Played,
     let at = positions(alloc, driver, hoists)?;
     let mut frame = empty(alloc, line, at.as_slice())?;
     let mut next = empty(alloc, line, at.as_slice())?;
-    let mut order = idle(alloc, hoists)?;
+    let mut order = Order::idle(alloc, hoists)?;
     let mut log = Vec::new(alloc);
     let first = driver.first();
     let last = driver.last();

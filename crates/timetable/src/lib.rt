@@ -8,8 +8,6 @@ mod holding;
 mod legal;
 mod parts;
 mod stretch;
-#[cfg(test)]
-mod tests;
 mod timetable;
 mod track;
 mod visits;

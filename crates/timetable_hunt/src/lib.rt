@@ -18,8 +18,6 @@ mod rides;
 mod seeker;
 mod spread;
 mod start;
-#[cfg(test)]
-mod tests;
 mod walks;
 mod zones;
 

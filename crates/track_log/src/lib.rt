@@ -6,10 +6,6 @@ mod followed;
 pub mod laws;
 mod positions;
 mod recording;
-#[cfg(test)]
-mod recordings;
-#[cfg(test)]
-mod tests;
 mod text;
 mod ticks;
 mod walk;

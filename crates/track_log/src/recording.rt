@@ -72,22 +72,6 @@ fn push_tick(text: &mut Vec<u8>, order: &Order) -> Result<(), AllocError>
     Ok(())
 }
 
-/// An order that leaves all hoists where they are.
-fn idle(alloc: Global, hoists: u32) -> Result<Order, AllocError>
-    ensures { IfOk result (IsSizedOrder hoists) }
-{
-    let mut go = Vec::new(alloc);
-    go.resize(hoists as usize, Go::Stay)?;
-    let mut begin = Vec::new(alloc);
-    begin.resize(hoists as usize, None)?;
-    Ok(Order {
-        go,
-        begin,
-        off: false,
-        put: false,
-    })
-}
-
 /// Writes where the hoists are at the first tick.
 #[tactic(auto, using(crate::proofs::Recorded::one_place))]
 fn push_places<D: Driver>(text: &mut Vec<u8>, driver: &D, hoists: u32) -> Result<(), AllocError>
@@ -114,7 +98,7 @@ fn push_lines<D: Driver>(
     ensures text { OnOk result (text.new.items ≡ text.old.items ++ flat_map logs.tick_text (lines_from hoists (D.command driver.now) first ticks)) }
     ensures there { OnOk result (OrdersThere hoists (D.command driver.now) first ticks) }
 {
-    let mut order = idle(alloc, hoists)?;
+    let mut order = Order::idle(alloc, hoists)?;
     for t in 0..ticks {
         driver.order(first + t, &mut order);
         push_tick(text, &order)?;

@@ -26,6 +26,7 @@ use Rattle.path_constraints.specs.Meets.{Meets, MeetsPath}
 use Rattle.path_constraints.proofs.Choices.{choice-append, assigned-append, assigned}
 use Rattle.path_constraints.proofs.Settled.{tank_stays, motion_is, ride_is, SettledRide}
 use Rattle.path_constraints.proofs.CoverTankLemmas.{tank_settled, visit_before, visit_after}
+use Rattle.path_constraints.proofs.TankLemmas.{one_by}
 use Rattle.path_constraints.proofs.CoverRideLemmas.{hoist_open, ride_settled}
 use Rattle.path_constraints.proofs.CoverTreeLemmas.{fits_more, meets_more}
 use Rattle.window_margin.specs.Chosen.{DecidesNoOrder, IsChosen, ChoosesBelow, AssignsBelow}
@@ -173,13 +174,6 @@ tank_chosen l p path n child v h is visit several there get =
     not_none None n e f = cc
     not_none (Some x) n e f = cc
 
--- with all tanks chosen each visit has its own
-one_by : (tanks : List ℕ) (o : Option ℕ) → 1 ≤ length tanks → (o ≡ None → length tanks < 2) → (t : ℕ) × (one_of (tanks_by tanks o) ≡ Some t)
-one_by tanks (Some n) some few = (get_or tanks n 0, refl)
-one_by [] None some few = absurd (omega (arith, some))
-one_by (x ∷ []) None some few = (x, refl)
-one_by (x ∷ y ∷ ys) None some few = absurd (omega (arith, few refl))
-
 -- the number of a visit, in its row
 in_rows : (c k n d : ℕ) → c < d → k < n → c * n + k < d * n
 in_rows c k n d lt lt' =
@@ -201,7 +195,7 @@ all_chosen l p path n line legal h all = record {
       let Q : ℕ → Type 0 = λ x. choice_of path c x ≡ None → length (stage l x).tanks < 2 in
       let few = subst Q at' (subst P at (h.made i below)) in
       let one = one_by (stage l k).tanks (choice_of path c k) (line.stages.count k visit.1).0 few in
-      one.1 ∙ ap (λ (t : ℕ). Some t) (tank_settled l path p c k one.0 legal h.meets visit one.1);
+      one ∙ ap (λ (t : ℕ). Some t) (tank_settled l path p c k _ legal h.meets visit one);
   made = λ j lt. absurd (omega (arith, lt));
   open_yet = λ j le. h.unassigned (move_at l j).carrier (move_at l j).step;
   free = h.free;

@@ -10,8 +10,6 @@ mod order_arcs;
 mod orders;
 mod reads;
 mod systems;
-#[cfg(test)]
-mod tests;
 mod texts;
 mod walks;
 

@@ -10,6 +10,3 @@ mod worker;
 
 pub use round::{run, run_in};
 pub use work::Work;
-
-#[cfg(test)]
-mod tests;

@@ -6,7 +6,8 @@ use Rattle.hoist_words.specs.Found.{FitsRow, IsFit, IsFound}
 use Rattle.hoist_words.specs.Request.{words_of, IsRequestOf, Says, files_of}
 use Rattle.hoist_words.specs.Table.{name_of_command, row_of}
 use Rattle.hoist_words.proofs.RequestLemmas.{asked, call_of, long_words, nothing_fits, nothing_long, read_files, tail_of}
-use Rattle.hoist_words.proofs.WalkLemmas.{new_found, said_rows, words_read, words_taken}
+use Rattle.hoist_words.proofs.WordLemmas.{said_rows}
+use Rattle.hoist_words.proofs.WalkLemmas.{new_found, words_read, words_taken}
 use Rattle.hoist_words.proofs.words.read_words.Goals as goal
 
 pub returns-then-behind-gt-MOST_WORDS : goal.returns-then-behind-gt-MOST_WORDS

@@ -1,7 +1,0 @@
-use Rattle.path_constraints.proofs.TestLemmas.{fits_one}
-use Rattle.path_constraints.proofs.tests.fits_alone.Goals as goal
-
-pub returns : goal.returns
-returns c = λ e.
-    let order = c.is_child_of_order.ensures e in
-    fits_one c.args.line.now c.args.decision (c.fits.ensures.0 c.if-not-fits.false) order.0 order.1

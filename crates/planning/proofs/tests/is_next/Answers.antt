@@ -1,7 +1,0 @@
-use Rattle.planning.proofs.TestLemmas.{fits_next}
-use Rattle.planning.proofs.tests.is_next.Goals as goal
-
-pub returns : goal.returns
-returns c = λ e.
-    fits_next c.args.line.now c.args.path.now c.args.decision c.children_of.result (c.fits.ensures.0 c.if-not-fits.false)
-    (c.children_of.ensures c.args.path.now) e

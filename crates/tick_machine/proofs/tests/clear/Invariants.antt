@@ -1,5 +1,0 @@
-use Rattle.tick_machine.specs.Scene.{IsSizedOrder}
-use Rattle.tick_machine.proofs.tests.clear.Given as goal
-
-abbrev pub invariant-loop-h : goal.invariant-loop-h
-invariant-loop-h l = IsSizedOrder l.hoists l.order

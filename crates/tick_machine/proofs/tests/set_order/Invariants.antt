@@ -1,5 +1,0 @@
-use Rattle.tick_machine.specs.Scene.{IsSizedOrder}
-use Rattle.tick_machine.proofs.tests.set_order.Given as goal
-
-abbrev pub invariant-loop-at : goal.invariant-loop-at
-invariant-loop-at l = IsSizedOrder l.hoists l.order
