@@ -20,9 +20,10 @@ def italic(text):
 
 
 def synopsis(program, command):
+    flags = [f"[{bold('--' + it.name)}]" for it in command.flags]
     options = [f"[{bold('--' + it.name)} {italic('N')}]" for it in command.options]
     name = " ".join(filter(None, (program.name, command.name)))
-    return " ".join([bold(name), *map(italic, command.words), *options])
+    return " ".join([bold(name), *flags, *map(italic, command.words), *options])
 
 
 def entry(head, text):
@@ -40,6 +41,8 @@ def command_lines(program):
     for command in program.commands:
         if command.name:
             lines += [".SS " + synopsis(program, command), roff(command.text)]
+        for flag in command.flags:
+            lines += entry(bold("--" + flag.name), flag.meaning)
         for option in command.options:
             lines += option_entry(option)
     return lines
@@ -101,7 +104,13 @@ def takes_files(command):
 
 
 def options_of(command):
-    return " ".join(f"--{it.name}" for it in command.options)
+    return " ".join(f"--{it.name}" for it in (*command.flags, *command.options))
+
+
+# A part of a completion for bash.
+NUMBER_BEHIND = """    # A number stands behind an option.
+    [[ $before == --* || $before == = || $word == = ]] && return
+"""
 
 
 def bash_of_commands(program):
@@ -113,9 +122,7 @@ def bash_of_commands(program):
         mapfile -t COMPREPLY < <(compgen -W '{names}' -- "$word")
         return
     fi
-    # A number stands behind an option.
-    [[ $before == --* || $before == = || $word == = ]] && return
-    case ${{COMP_WORDS[1]}} in
+{NUMBER_BEHIND}    case ${{COMP_WORDS[1]}} in
 {chr(10).join(rows)}
         *) return ;;
     esac
@@ -130,9 +137,7 @@ def bash_of_commands(program):
 
 def bash_of_one_form(command):
     """The part of a completion of a program with one form, which takes files."""
-    return f"""    # A number stands behind an option.
-    [[ $before == --* || $before == = || $word == = ]] && return
-    if [[ $word == -* ]]; then
+    return f"""{NUMBER_BEHIND if command.options else ""}    if [[ $word == -* ]]; then
         mapfile -t COMPREPLY < <(compgen -W '{options_of(command)}' -- "$word")
         return
     fi
@@ -141,10 +146,11 @@ def bash_of_one_form(command):
 
 def bash(program):
     body = bash_of_commands(program) if program.commands[0].name else bash_of_one_form(program.commands[0])
+    before = " before=${COMP_WORDS[COMP_CWORD - 1]}" if any(it.options for it in program.commands) else ""
     options = " options=" if program.commands[0].name else ""
     return f"""# Completion of {program.name} for bash.
 _{program.name}() {{
-    local word=${{COMP_WORDS[COMP_CWORD]}} before=${{COMP_WORDS[COMP_CWORD - 1]}}{options}
+    local word=${{COMP_WORDS[COMP_CWORD]}}{before}{options}
     COMPREPLY=()
 {body}
 }}
@@ -161,6 +167,7 @@ def zsh_arguments(command):
     """What zsh's _arguments is told of the words and options of a command."""
     action = {word: "_files" if WORDS[word][0] else " " for word in command.words}
     specs = [f"{i + 1}:{word}:{action[word]}" for i, word in enumerate(command.words)]
+    specs += [f"--{it.name}[{it.meaning}]" for it in command.flags]
     specs += [f"--{it.name}=[{it.least} to {it.most}]:N: " for it in command.options]
     return f"_arguments {' '.join(map(quoted, specs))}"
 
@@ -206,6 +213,8 @@ def fish(program):
             seen = f"{here} -n '__fish_seen_subcommand_from {command.name}'"
         if takes_files(command):
             lines.append(f"{seen} -F")
+        for it in command.flags:
+            lines.append(f"{seen} -l {it.name} -d {quoted(it.meaning)}")
         for it in command.options:
             lines.append(f"{seen} -l {it.name} -x -d {quoted(f'{it.least} to {it.most}')}")
     return "\n".join(lines) + "\n"

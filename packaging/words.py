@@ -21,6 +21,13 @@ class Option(NamedTuple):
     meaning: str
 
 
+class Flag(NamedTuple):
+    """An option `--name` without a number, and what it means."""
+
+    name: str
+    meaning: str
+
+
 class Command(NamedTuple):
     """A command: its words, its options, what it does in a few words, and whole sentences. A program with one form
     alone has one command, without a name."""
@@ -30,6 +37,7 @@ class Command(NamedTuple):
     options: tuple
     brief: str
     text: str
+    flags: tuple = ()
 
 
 # The words that stand for something, and whether they name files.
@@ -276,7 +284,41 @@ PROVE = Program(
     ),
 )
 
-TABLES = {it.name: it for it in (HOIST, PROVE)}
+REPORT = Program(
+    "hoist_report",
+    "makes a page of an answer to an electroplating line",
+    (
+        "hoist_report prints one page of HTML that needs nothing beside it: the timetable of ANSWER as a time-way "
+        "diagram, the dwells beside their windows, and why no period is smaller. Only an answer that hoist check "
+        "accepts is drawn. With --json it prints the same timetable as a document of JSON.",
+        "The option stands at most once, before, between or behind the names of the files. All other words that begin "
+        "with a dash ask nothing, --help and --version among them.",
+    ),
+    (
+        Command(
+            "",
+            ("FILE", "ANSWER"),
+            (),
+            "make a page of an answer",
+            "",
+            (Flag("json", "Prints a document of JSON in place of the page."),),
+        ),
+    ),
+    (
+        Status(0, "The answer is accepted and has a timetable, and the page or the document was printed."),
+        Status(1, "The answer is rejected, or has no timetable."),
+        *(it for it in STATUSES if it.number in (2, 4)),
+        Status(5, "ANSWER is no answer: the length of the longest part that such a text begins with is printed."),
+        *(it for it in STATUSES if it.number in (6, 7, 8, 9)),
+    ),
+    (),
+    (
+        ("hoist solve lines/two_hoists.toml > answer", "solves a line"),
+        ("hoist_report lines/two_hoists.toml answer > page.html", "makes the page"),
+    ),
+)
+
+TABLES = {it.name: it for it in (HOIST, PROVE, REPORT)}
 
 
 def words_of(commands):
@@ -291,8 +333,9 @@ def limits_of(commands):
 
 
 def asked(command):
-    """The words of a command as the usage has them: `FILE [--budget N]`."""
-    return " ".join([*command.words, *(f"[--{it.name} N]" for it in command.options)])
+    """The words of a command as the usage has them: `[--flag] FILE [--budget N]`."""
+    flags = [f"[--{it.name}]" for it in command.flags]
+    return " ".join([*flags, *command.words, *(f"[--{it.name} N]" for it in command.options)])
 
 
 def usage(program):

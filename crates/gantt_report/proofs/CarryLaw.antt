@@ -1,8 +1,7 @@
 -- The test of a hoist that carries tells it.
-use Rattle.std.proofs.Common.{⊎_elim, ◌⊎◌, ◌≡◌, ℕ, ◌+◌, ◌-◌, ◌*◌, ◌/◌, ◌%◌, ◌<◌, ◌≤◌, ◌==◌, ◌&&◌, ◌↔◌, IsTrue, Bool, true, false, List, length, get_or, refl, sym, ap, ◌∙◌, mod-eq_of_lt, arith}
+use Rattle.std.proofs.Common.{◌≡◌, ℕ, ◌+◌, ◌-◌, ◌*◌, ◌/◌, ◌%◌, ◌<◌, ◌==◌, ◌&&◌, Bool, true, get_or, sym, ap, ◌∙◌, mod-eq_of_lt, arith}
 use Rattle.std.specs.List.{range_with_len, list_any}
 use Rattle.std.proofs.Math.Nat.{add-mul-mod_self_right}
-use Rattle.std.proofs.lemmas.Bool.{eqb-true}
 use Rattle.std.proofs.lemmas.Bool.Decides.{nat_tests}
 use Rattle.std.proofs.lemmas.List.Folds.{Any-from_list_any, list_any_at}
 use Rattle.std.proofs.lemmas.List.FromFn.{length-range_with_len, get_or-range_with_len}
@@ -12,7 +11,6 @@ use Rattle.hoist_base.specs.Valid.{IsLine}
 use Rattle.hoist_base.proofs.NumberLemmas.{move_there, move_below}
 use Rattle.line_model.specs.Motion.{duration}
 use Rattle.line_model.specs.Timetable.{Timetable, later, motion}
-use Rattle.line_model.specs.Legal.{CarriesAt}
 use Rattle.gantt_report.specs.Chart.{Carries, carries_by, carries, TellsCarries}
 
 -- a test is true of some number below n

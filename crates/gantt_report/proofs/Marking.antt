@@ -8,7 +8,7 @@ use Rattle.std.proofs.lemmas.Nat.{mul-le, mod_below}
 use Rattle.hoist_base.specs.LineData.{LineData, move_at, move_count}
 use Rattle.line_model.specs.Motion.{duration}
 use Rattle.line_model.specs.Timetable.{Timetable, motion}
-use Rattle.gantt_report.specs.Chart.{carries_by, carries, mark_place, is_marked_by, AreMarks}
+use Rattle.gantt_report.specs.Chart.{carries_by, mark_place, is_marked_by, AreMarks}
 use Rattle.gantt_report.proofs.Rows.{any_more}
 
 pub same_number : (i j : ℕ) → i ≡ j → (i == j) ≡ true

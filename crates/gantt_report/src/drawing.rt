@@ -106,17 +106,17 @@ fn draw_hoists(row: &mut Vec<u8>, line: &Line, t: &Timetable, marks: &[bool], ti
     for h in 0..line.hoists() {
         let at = t.position(h, tick as u64);
         let carries = marks[(h * t.period() + tick) as usize];
-        row[at as usize] = hoist_cell(h, carries);
+        draw_hoist(&mut row[at as usize], h, carries);
     }
 }
 
-// A letter for a hoist that carries, a digit for another one.
-fn hoist_cell(h: u32, carries: bool) -> u8
+// Draws a hoist over a cell: a letter for one that carries, a digit for another one.
+fn draw_hoist(cell: &mut u8, h: u32, carries: bool)
     requires { h < 6 }
-    ensures { result ≡ charts.hoist_cell h carries }
+    ensures { cell.new ≡ charts.hoist_cell h carries }
 {
     let first = if carries { b'A' } else { b'0' };
-    first + h as u8
+    *cell = first + h as u8;
 }
 
 // The tick, and then the cells between two bars.

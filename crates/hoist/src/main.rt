@@ -5,15 +5,17 @@
 use hoist_cli::{Status, hoist};
 use outside::{FileShelf, StdSink};
 use progress_gate::{ProgressGate, is_wanted};
-use std::io::IsTerminal;
+use std::alloc::AllocError;
+use std::io::{ErrorKind, IsTerminal};
 use std::process::ExitCode;
 use std::{env, io};
 
 fn main(rt: HostRuntime) -> ExitCode {
     let alloc = rt.alloc();
-    // Words that can't be had, such as one that isn't UTF-8, ask nothing.
     let words = match env::args(&rt) {
         Ok(args) => args.collect::<Vec<String>>(alloc),
+        Err(e) if e.kind() == ErrorKind::OutOfMemory => Err(AllocError),
+        // Words that can't be had, such as one that isn't UTF-8, ask nothing.
         Err(_) => Ok(Vec::new(alloc)),
     };
     let Ok(words) = words else {

@@ -99,8 +99,8 @@ fn answer_in<F: Shelf>(
     }
 }
 
-/// The line of one file and the answer to it of another.
-pub(crate) fn line_and_answer<F: Shelf>(
+/// The line of one file and the answer to it of another; else the stop that says which of them is none, and why.
+pub fn line_and_answer<F: Shelf>(
     alloc: Global,
     file: &str,
     answer: &str,

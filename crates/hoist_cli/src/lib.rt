@@ -14,7 +14,7 @@ mod status;
 mod sweeping;
 mod top;
 
-pub use files::{ANSWER_LIMIT, line_in};
+pub use files::{ANSWER_LIMIT, line_and_answer, line_in};
 pub use replies::{Reply, Stop, settled};
 pub use solving::status_on;
 pub use status::Status;

@@ -4,14 +4,17 @@
 use hoist_cli::Status;
 use outside::{FileShelf, StdSink};
 use prove_cli::hoist_prove;
+use std::alloc::AllocError;
+use std::io::ErrorKind;
 use std::process::ExitCode;
 use std::{env, io};
 
 fn main(rt: HostRuntime) -> ExitCode {
     let alloc = rt.alloc();
-    // Words that can't be had, such as one that isn't UTF-8, ask nothing.
     let words = match env::args(&rt) {
         Ok(args) => args.collect::<Vec<String>>(alloc),
+        Err(e) if e.kind() == ErrorKind::OutOfMemory => Err(AllocError),
+        // Words that can't be had, such as one that isn't UTF-8, ask nothing.
         Err(_) => Ok(Vec::new(alloc)),
     };
     let Ok(words) = words else {

@@ -1,9 +1,8 @@
 // The text of a run.
-ghost use Rattle.std.specs.Prelude.{◌≡◌, ◌≤◌, ◌++◌, codes, decimal, OnOk, IfOk};
+ghost use Rattle.std.specs.Prelude.{◌≡◌, ◌≤◌, ◌++◌, codes, decimal, flat_map, OnOk, IfOk};
 ghost use Rattle.line_model.specs.Legal.{IsLegal};
 ghost use Rattle.timetable.specs.TimetableData.{timetable_of, FitsLine};
 ghost use Rattle.startup_rundown.specs.RunLog.{run_log};
-ghost use Rattle.startup_rundown.specs.Driving.{IsDoneRun};
 ghost use Rattle.run_text.specs.RunText as texts;
 
 use crate::events::push_events;
@@ -11,7 +10,7 @@ use hoist_base::Line;
 use startup_rundown::drive;
 use std::alloc::{AllocError, Global};
 use text_writing::push_word_number;
-use tick_machine::{Driver, Event, Played, play};
+use tick_machine::{Driver, Playing};
 use timetable::Timetable;
 
 /// The text of the run of the first 1 to 1,000 carriers of a legal timetable, as the tick machine plays it.
@@ -30,42 +29,37 @@ pub fn run_text(
     ensures { IfOk result (λ text. text.items ≡ texts.run_text line.now (timetable_of t.now) carriers) }
 {
     let runner = drive(line, t, carriers);
-    let log = log_of(alloc, line, t, carriers)?;
     let mut text = Vec::new(alloc);
     push_head(&mut text, carriers, runner.first(), runner.last())?;
-    push_events(&mut text, log.as_slice())?;
+    push_run(&mut text, alloc, line, t, carriers)?;
     text.extend_from_slice(b"empty\n")?;
     Ok(text)
 }
 
-// What happens in the run, in order: the machine makes no breach.
-fn log_of(
+// What happens in the run, in order: the machine makes no breach. The events of one tick alone are held at a time.
+fn push_run(
+    text: &mut Vec<u8>,
     alloc: Global,
     line: &Line,
     t: &Timetable,
     carriers: u64,
-) -> Result<Vec<Event>, AllocError>
+) -> Result<(), AllocError>
     requires fits { FitsLine line.now t.now }
     requires legal { IsLegal line.now (timetable_of t.now) }
     requires carriers { (1 ≤ carriers) × (carriers ≤ 1000) }
-    ensures { IfOk result (λ log. log.items ≡ run_log line.now (timetable_of t.now) carriers) }
-{
-    match played(alloc, line, t, carriers)? {
-        Played::Done { log, .. } => Ok(log),
-        Played::Refused { .. } => unreachable!(),
-    }
-}
-
-// What the machine that the timetable drives answers.
-fn played(alloc: Global, line: &Line, t: &Timetable, carriers: u64) -> Result<Played, AllocError>
-    requires fits { FitsLine line.now t.now }
-    requires legal { IsLegal line.now (timetable_of t.now) }
-    requires carriers { (1 ≤ carriers) × (carriers ≤ 1000) }
-    ensures { IfOk result (IsDoneRun line.now (timetable_of t.now) carriers) }
+    ensures { OnOk result (text.new.items ≡ text.old.items ++ flat_map texts.event_line (run_log line.now (timetable_of t.now) carriers)) }
 {
     let runner = drive(line, t, carriers);
-    let played = play(alloc, line, &runner)?;
-    Ok(played)
+    let mut playing = Playing::begin(alloc, line, &runner)?;
+    let mut events = Vec::new(alloc);
+    for _tick in runner.first()..runner.last() + 1 {
+        events.clear();
+        match playing.advance(&runner, &mut events)? {
+            None => push_events(text, events.as_slice())?,
+            Some(_) => unreachable!(),
+        }
+    }
+    Ok(())
 }
 
 // How many carriers there are, and from when to when the run goes.

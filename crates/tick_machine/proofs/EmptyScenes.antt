@@ -61,8 +61,12 @@ empty_keeps l at apart = record {
   not_both = λ c i h y (k, age, e) e' same. absurd (let g = e in cc);
 }
 
+-- nothing in it is older than any tick
+pub empty_by : (l : Layout) (at : ℕ → ℕ) (t : ℕ) → IsBelow (t + 1) (empty_scene l at)
+empty_by l at t = record { next = omega arith; ages = λ i. tt }
+
 pub empty_below : (l : Layout) (at : ℕ → ℕ) → IsBelow 1 (empty_scene l at)
-empty_below l at = record { next = omega arith; ages = λ i. tt }
+empty_below l at = empty_by l at 0
 
 -- a list that was empty and is filled up holds one value
 pub filled : {A : Type 0} (xs old : List A) (n m : ℕ) (x : A) → old ≡ [] → xs ≡ take n old ++ replicate m x → (h : ℕ) → get_or xs h x ≡ x

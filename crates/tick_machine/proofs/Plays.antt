@@ -1,12 +1,14 @@
 -- A run, counted by the steps that are done.
-use Rattle.std.proofs.Common.{◌≡◌, ℕ, zero, suc, ◌+◌, ◌-◌, ◌≤◌, Result, Ok, Err, ◌++◌, ap, ◌∙◌, arith}
+use Rattle.std.proofs.Common.{◌≡◌, ℕ, zero, suc, ◌+◌, ◌-◌, ◌≤◌, Option, Result, Ok, Err, ◌++◌, ap, subst, ◌∙◌, arith}
+use Rattle.hoist_base.specs.LineData.{LineData}
 use Rattle.tick_machine.specs.declared.breach.Breach.{Breach}
-use Rattle.tick_machine.specs.Layout.{Layout, IsLayout}
+use Rattle.tick_machine.specs.Layout.{Layout, IsLayout, layout_of}
 use Rattle.tick_machine.specs.Scene.{Scene, Command}
 use Rattle.tick_machine.specs.Step.{step}
 use Rattle.tick_machine.specs.Events.{events_of}
 use Rattle.tick_machine.specs.Rules.{KeepsRules, IsBelow}
-use Rattle.tick_machine.specs.Play.{Reached, Stop, step_to, next_step, steps}
+use Rattle.tick_machine.specs.Play.{Reached, Stop, step_to, next_step, steps, reached_or}
+use Rattle.tick_machine.specs.Playing.{PlayingData}
 use Rattle.tick_machine.proofs.PartwayStep.{step_keeps}
 use Rattle.tick_machine.proofs.Bounds.{step_below}
 
@@ -27,6 +29,13 @@ done_next l orders first t r a b le so next =
     let count : t + 1 - first ≡ suc (t - first) = omega arith in
     let here : first + (t - first) ≡ t = omega arith in
     ap (done l orders first r) count ∙ ap (λ (n : ℕ). next_step l n (orders n) (done l orders first r (t - first))) here ∙ ap (next_step l t (orders t)) so ∙ next
+
+-- the step of a machine in play, of which its line and its tick are known
+pub step_at : (m : PlayingData) (l : LineData) (t : ℕ) (orders : ℕ → Command) (breach : Option Breach) (a b : Reached) → m.line ≡ l → m.tick ≡ t
+    → next_step (layout_of m.line) m.tick (orders m.tick) (Ok a) ≡ reached_or m.tick breach b → next_step (layout_of l) t (orders t) (Ok a) ≡ reached_or t breach b
+step_at m l t orders breach a b line tick is =
+    subst (λ (x : LineData). next_step (layout_of x) t (orders t) (Ok a) ≡ reached_or t breach b) line
+    (subst (λ (n : ℕ). next_step (layout_of m.line) n (orders n) (Ok a) ≡ reached_or n breach b) tick is)
 
 -- a breach ends the run
 pub done_stays : (l : Layout) (orders : ℕ → Command) (first n m : ℕ) (r : Reached) (s : Stop) → done l orders first r n ≡ Err s → done l orders first r (n + m) ≡ Err s

@@ -6,3 +6,4 @@ pub mod Events
 pub mod Play
 pub mod Rules
 pub mod Fits
+pub mod Playing

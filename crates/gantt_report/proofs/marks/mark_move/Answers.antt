@@ -1,4 +1,4 @@
-use Rattle.std.proofs.Common.{◌+◌, ap, arith}
+use Rattle.std.proofs.Common.{◌+◌, arith}
 use Rattle.timetable.specs.TimetableData.{timetable_of}
 use Rattle.gantt_report.specs.Chart.{mark_place}
 use Rattle.gantt_report.proofs.Marking.{place_is, place_within, room_is, tick_marked}
