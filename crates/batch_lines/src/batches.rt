@@ -16,9 +16,9 @@ use std::thread::Threads;
 use text_writing::push_word_number;
 use worker_pool::run;
 
-/// What is printed of each of at most 64 lines, in the order of the lines, each under a budget of at most 500 splits. The
-/// lines are jobs of 1 to 64 workers, which have no part in what is printed, and pass the gate by their number. There are
-/// no more workers than lines.
+/// What is printed of each of at most 64 lines, in the order of the lines, each under a budget of at most 500 splits.
+/// The lines are jobs of 1 to 64 workers, which have no part in what is printed, and pass the gate by their number.
+/// There are no more workers than lines.
 ///
 /// # Errors
 ///
@@ -44,8 +44,8 @@ pub fn batch<R: Threads + Sync, G: Gate>(
     Ok(Singles::from_vec(singles?))
 }
 
-/// The text of a batch, by what was read of each of its at most 64 files: a part for each file, which is what is printed of
-/// its line, or why it is no line; and last how many files there are.
+/// The text of a batch, by what was read of each of its at most 64 files: a part for each file, which is what is
+/// printed of its line, or why it is no line; and last how many files there are.
 ///
 /// # Errors
 ///

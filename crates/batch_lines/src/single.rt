@@ -33,8 +33,8 @@ impl Text {
     }
 }
 
-/// What is printed of one line: the text of its answer, with the status of its verdict, 0 for an optimal one, 1 where there
-/// is no timetable and 3 where paths are left.
+/// What is printed of one line: the text of its answer, with the status of its verdict, 0 for an optimal one, 1 where
+/// there is no timetable and 3 where paths are left.
 #[derive(Debug, Drop)]
 pub struct Single {
     pub status: u32,

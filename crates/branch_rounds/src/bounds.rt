@@ -1,5 +1,20 @@
 // The bound of a search: what the walks of its paths left refute.
-ghost use Rattle.std.specs.Prelude.{◌≡◌, ◌⊎◌, ℕ, ◌≤◌, ◌<◌, ◌<ℤ◌, ◌↔◌, pos, length, get_or, unsigned_abs, IsTrue, IfOk, IfSome};
+ghost use Rattle.std.specs.Prelude.{
+  ◌≡◌,
+  ◌⊎◌,
+  ℕ,
+  ◌≤◌,
+  ◌<◌,
+  ◌<ℤ◌,
+  ◌↔◌,
+  pos,
+  length,
+  get_or,
+  unsigned_abs,
+  IsTrue,
+  IfOk,
+  IfSome,
+};
 ghost use Rattle.hoist_base.specs.Valid.{IsLine};
 ghost use Rattle.longest_path.specs.Bounds.{IsPeriod};
 ghost use Rattle.cycle_walk.specs.Refuting.{AreSmall};
@@ -31,7 +46,8 @@ fn constraint_named(line: &Line, path: &[Decision], name: Constraint) -> Arc
 // The sums of constraints of a path.
 fn sums_of(line: &Line, path: &[Decision], names: &[Constraint]) -> Sums
     requires fits { FitsPath line.now path.now }
-    requires named { (k : ℕ) (x : Name) → k < length names.now → x ≡ get_or names.now k x → IsConstraint line.now path.now x }
+    requires named { (k : ℕ) (x : Name) → k < length names.now → x ≡ get_or names.now k x
+        → IsConstraint line.now path.now x }
     requires few { length names.now ≤ 1000 }
     ensures w { result.w ≡ sum_w line.now path.now names.now }
     ensures q { result.q ≡ sum_q line.now path.now names.now }

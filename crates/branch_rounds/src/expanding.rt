@@ -49,5 +49,6 @@ impl Work for Expanding<'_> {
         room.expand(alloc, self.line, path.as_slice(), self.cap)
     }
 
-    ghost one = { λ work path x y can a b. expansion_is_one work.line.now path work.cap x y can.valid a.expansion b.expansion };
+    ghost one = { λ work path x y can a b. expansion_is_one work.line.now path work.cap x y can.valid a.expansion
+        b.expansion };
 }

@@ -109,10 +109,12 @@ impl Search {
         requires some { 0 < length self.old.frontier }
         requires unspent { self.old.splits < budget }
         ensures expander { expander.new ≡ expander.old }
-        ensures round { OnOk result ((xs : List Expansion) × IsRound line.now budget self.old xs × (self.new ≡ after self.old xs)) }
+        ensures round { OnOk result ((xs : List Expansion) × IsRound line.now budget self.old xs
+            × (self.new ≡ after self.old xs)) }
         ensures kept { OnOk result (IsKept line.now self.new) }
         ensures splits { OnOk result (self.new.splits ≤ budget) }
-        ensures less { OnOk result (length self.new.frontier + 6 * (budget - self.new.splits) < length self.old.frontier + 6 * (budget - self.old.splits)) }
+        ensures less { OnOk result (length self.new.frontier + 6 *
+            (budget - self.new.splits) < length self.old.frontier + 6 * (budget - self.old.splits)) }
     {
         let count = self.round_size(budget);
         let expansions = self.expand_in_turn(alloc, line, expander, count, gate)?;
@@ -136,10 +138,12 @@ impl Search {
         requires some { 0 < length self.old.frontier }
         requires unspent { self.old.splits < budget }
         ensures workers { workers.new ≡ workers.old }
-        ensures round { OnOk result ((xs : List Expansion) × IsRound line.now budget self.old xs × (self.new ≡ after self.old xs)) }
+        ensures round { OnOk result ((xs : List Expansion) × IsRound line.now budget self.old xs
+            × (self.new ≡ after self.old xs)) }
         ensures kept { OnOk result (IsKept line.now self.new) }
         ensures splits { OnOk result (self.new.splits ≤ budget) }
-        ensures less { OnOk result (length self.new.frontier + 6 * (budget - self.new.splits) < length self.old.frontier + 6 * (budget - self.old.splits)) }
+        ensures less { OnOk result (length self.new.frontier + 6 *
+            (budget - self.new.splits) < length self.old.frontier + 6 * (budget - self.old.splits)) }
     {
         let count = self.round_size(budget);
         let expansions = workers.expand_first(rt, alloc, line, self, count, gate)?;

@@ -25,7 +25,8 @@ impl Search {
         requires room { length self.old.tree + 6 < 2 ^ 32 }
         requires splits { self.old.splits < 20000 }
         ensures tree { OnOk result (self.new.tree ≡ split_at self.old.tree node question children low.now) }
-        ensures paths { OnOk result (paths.new.items ≡ paths.old.items ++ numbers_from (length self.old.tree) children) }
+        ensures paths { OnOk result (paths.new.items
+            ≡ paths.old.items ++ numbers_from (length self.old.tree) children) }
         ensures best { self.new.best ≡ self.old.best }
         ensures splits { OnOk result (self.new.splits ≡ self.old.splits + 1) }
         ensures frontier { self.new.frontier ≡ self.old.frontier }
@@ -68,7 +69,8 @@ impl Search {
         requires room { length self.old.tree + 6 < 2 ^ 32 }
         requires splits { self.old.splits < 20000 }
         ensures tree { OnOk result (self.new.tree ≡ result_at self.old.tree node expanded) }
-        ensures paths { OnOk result (paths.new.items ≡ paths.old.items ++ numbers_from (length self.old.tree) (child_count expanded)) }
+        ensures paths { OnOk result (paths.new.items
+            ≡ paths.old.items ++ numbers_from (length self.old.tree) (child_count expanded)) }
         ensures best { OnOk result (self.new.best ≡ better self.old.best expanded) }
         ensures splits { OnOk result (self.new.splits ≡ self.old.splits + split_count expanded) }
         ensures frontier { self.new.frontier ≡ self.old.frontier }

@@ -18,7 +18,8 @@ use std::marker::Model;
 use std::thread::Threads;
 use worker_pool::run_in;
 
-/// A third worker and each further one has to have so many paths: a thread costs as much as the expansions of some of them.
+/// A third worker and each further one has to have so many paths: a thread costs as much as the expansions of some of
+/// them.
 const SHARE: usize = 32;
 
 /// 1 to 64 workers of one line, seen as that line. `base` is the line's system before any decision. Where one worker is
@@ -59,7 +60,8 @@ fn expand_at_once<R: Threads + Sync, G: Gate>(
     requires few { length paths.now < 2 ^ 32 }
     requires can { All (λ path. CanExpand work.now.line.now path work.now.cap) paths.now }
     requires rooms { All (λ room. room ≡ work.now.line.now) rooms.old.items }
-    ensures answers { IfOk result (λ xs. AreAnswersOf (λ path x. IsShown work.now.line.now path work.now.cap x) paths.now xs.items) }
+    ensures answers { IfOk result (λ xs. AreAnswersOf
+        (λ path x. IsShown work.now.line.now path work.now.cap x) paths.now xs.items) }
     ensures rooms { All (λ room. room ≡ work.now.line.now) rooms.new.items }
 {
     let (board, mut seat) = Board::new(alloc, paths.len() as u32, workers)?;

@@ -39,7 +39,8 @@ fn other_bound(seen: u32, want: u32) -> Option<Reason>
 
 /// Whether the timetable and the bound are what the verdict asks for.
 pub(crate) fn claim_reason(line: &Line, a: &Answer) -> Option<Reason>
-    ensures first { MatchOption result (IsClaim line.now a.now.verdict a.now.timetable a.now.bound) (λ r. IsFirstFrom line.now a.now 0 r) }
+    ensures first { MatchOption result (IsClaim line.now a.now.verdict a.now.timetable a.now.bound)
+        (λ r. IsFirstFrom line.now a.now 0 r) }
     ensures other { IsSome result → IsClaim line.now a.now.verdict a.now.timetable a.now.bound → ⊥ }
     ensures valid { IsLine line.now }
 {
@@ -66,7 +67,8 @@ pub(crate) fn claim_reason(line: &Line, a: &Answer) -> Option<Reason>
 
 /// Whether the splits of the tree are counted.
 pub(crate) fn splits_reason(a: &Answer) -> Option<Reason>
-    ensures first { (l : LineData) → MatchOption result (a.now.splits ≡ split_count a.now.tree) (λ r. IsFirstFrom l a.now 3 r) }
+    ensures first { (l : LineData) → MatchOption result (a.now.splits ≡ split_count a.now.tree)
+        (λ r. IsFirstFrom l a.now 3 r) }
     ensures valid { IsTree a.now.tree }
 {
     let seen = a.splits;
@@ -79,7 +81,8 @@ pub(crate) fn splits_reason(a: &Answer) -> Option<Reason>
 
 /// Whether a node is left just where the answer is open.
 pub(crate) fn left_reason(alloc: Global, a: &Answer) -> Result<Option<Reason>, AllocError>
-    ensures { IfOk result (λ answer. (l : LineData) → MatchOption answer (HasItsLeft a.now a.now.verdict) (λ r. IsFirstFrom l a.now 4 r)) }
+    ensures { IfOk result (λ answer. (l : LineData)
+        → MatchOption answer (HasItsLeft a.now a.now.verdict) (λ r. IsFirstFrom l a.now 4 r)) }
 {
     if a.verdict == Verdict::Unfinished {
         if has_left(&a.tree) {
@@ -96,7 +99,8 @@ pub(crate) fn left_reason(alloc: Global, a: &Answer) -> Result<Option<Reason>, A
 /// Whether the timetable, where there is one, is legal.
 pub(crate) fn fault_reason(line: &Line, a: &Answer) -> Option<Reason>
     requires { IsWritable line.now a.now }
-    ensures { MatchOption result (IfSome a.now.timetable (λ t. IsLegal line.now (timetable_of t))) (λ r. IsFirstFrom line.now a.now 6 r) }
+    ensures { MatchOption result (IfSome a.now.timetable (λ t. IsLegal line.now (timetable_of t)))
+        (λ r. IsFirstFrom line.now a.now 6 r) }
 {
     match &a.timetable {
         None => None,

@@ -1,5 +1,19 @@
 // The rules of a node.
-ghost use Rattle.std.specs.Prelude.{◌≡◌, ℕ, ◌+◌, ◌≤◌, ◌<◌, List, MatchOption, option_map, Some, None, Bool, IsTrue, ◌↔◌};
+ghost use Rattle.std.specs.Prelude.{
+  ◌≡◌,
+  ℕ,
+  ◌+◌,
+  ◌≤◌,
+  ◌<◌,
+  List,
+  MatchOption,
+  option_map,
+  Some,
+  None,
+  Bool,
+  IsTrue,
+  ◌↔◌,
+};
 ghost use Rattle.hoist_base.specs.LineData.{IsMove};
 ghost use Rattle.hoist_base.specs.Valid.{IsLine};
 ghost use Rattle.longest_path.specs.Bounds.{IsPeriod};
@@ -94,7 +108,8 @@ fn split_reason(
     node: u32,
 ) -> Option<Reason>
     requires { FitsPath line.now path.now }
-    ensures { MatchOption result (IsWholeSplit line.now path.now question children.now) (λ r. (r ≡ Reason.Question node) × (IsWholeSplit line.now path.now question children.now → ⊥)) }
+    ensures { MatchOption result (IsWholeSplit line.now path.now question children.now)
+        (λ r. (r ≡ Reason.Question node) × (IsWholeSplit line.now path.now question children.now → ⊥)) }
 {
     if fits(line, path, question) && children.len() == child_count(line, path, question) as usize {
         return None;
@@ -232,7 +247,8 @@ pub(crate) fn split_flaw(
     requires fits { FitsPath line.now path.now }
     requires text { IsNodeText single node.now }
     requires bound { IsPeriod bound }
-    ensures { MatchOption result (IsTrue (reasons.is_split node.now) → Shows line.now path.now node.now bound) (λ r. IsFirstFlaw line.now path.now node.now bound number r) }
+    ensures { MatchOption result (IsTrue (reasons.is_split node.now) → Shows line.now path.now node.now bound)
+        (λ r. IsFirstFlaw line.now path.now node.now bound number r) }
 {
     if !is_split(node) {
         return None;

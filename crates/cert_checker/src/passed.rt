@@ -125,7 +125,8 @@ impl Leaves {
             .map(
                 |leaf: &Leaf| -> Option<Reason>
                     requires { CanBeTried line.now tree.now bound decisions.now leaf.now }
-                    ensures { IsLeafAnswer line.entry.now tree.entry.now bound (leaf_of decisions.entry.now leaf.now) result }
+                    ensures { IsLeafAnswer line.entry.now tree.entry.now bound
+                        (leaf_of decisions.entry.now leaf.now) result }
                 { leaf_reason(line, tree, decisions, bound, *leaf) },
             )
             .find_first(
@@ -149,7 +150,8 @@ impl Leaves {
         requires nodes { (i : ℕ) → i < length tree.now → IsNodeText (is_single line.now) (node_at tree.now i) }
         requires bound { IsPeriod bound }
         requires passed { All (IsPassed line.now tree.now) self.old }
-        ensures { MatchOption result (AreTried line.now tree.now bound self.old self.new) (λ r. IsFirstAmong line.now tree.now bound self.old r) }
+        ensures { MatchOption result (AreTried line.now tree.now bound self.old self.new)
+            (λ r. IsFirstAmong line.now tree.now bound self.old r) }
     {
         if self.decisions.len() < MANY_DECISIONS {
             return None;

@@ -1,5 +1,23 @@
 // The nodes of a tree, one after another.
-ghost use Rattle.std.specs.Prelude.{◌≡◌, ◌≢◌, ℕ, ◌+◌, ◌≤◌, ◌<◌, ◌↔◌, ◌++◌, List, length, reverse, IsTrue, IfOk, OnOk, Some, None, MatchOption};
+ghost use Rattle.std.specs.Prelude.{
+  ◌≡◌,
+  ◌≢◌,
+  ℕ,
+  ◌+◌,
+  ◌≤◌,
+  ◌<◌,
+  ◌↔◌,
+  ◌++◌,
+  List,
+  length,
+  reverse,
+  IsTrue,
+  IfOk,
+  OnOk,
+  Some,
+  None,
+  MatchOption,
+};
 ghost use Rattle.hoist_base.specs.Valid.{IsLine};
 ghost use Rattle.longest_path.specs.Bounds.{IsPeriod};
 ghost use Rattle.choice_tree.specs.Nodes.{node_at, children_of, IsLeft, NoneLeft, SomeLeft};
@@ -139,7 +157,8 @@ pub(crate) fn has_left(tree: &Tree) -> bool
 
 /// The number in preorder of the first node that is left, or None where none is.
 pub(crate) fn first_left(alloc: Global, tree: &Tree) -> Result<Option<u32>, AllocError>
-    ensures { IfOk result (λ answer. MatchOption answer (NoneLeft tree.now) (λ n. IsLeftNode tree.now n × ((m : ℕ) → m < n → IsLeftNode tree.now m → ⊥))) }
+    ensures { IfOk result (λ answer. MatchOption answer (NoneLeft tree.now)
+        (λ n. IsLeftNode tree.now n × ((m : ℕ) → m < n → IsLeftNode tree.now m → ⊥))) }
 {
     if !has_left(tree) {
         return Ok(None);

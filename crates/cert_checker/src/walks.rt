@@ -54,7 +54,8 @@ pub(crate) fn follow(line: &Line, path: &[Decision], walk: &Proof) -> Result<Fol
     requires valid { IsLine line.now }
     requires fits { FitsPath line.now path.now }
     requires walk { IsWalk walk.now }
-    ensures { MatchResult result (λ f. IsFollowed line.now path.now walk.now f) (λ j. IsFirstStray line.now path.now walk.now j) }
+    ensures { MatchResult result (λ f. IsFollowed line.now path.now walk.now f)
+        (λ j. IsFirstStray line.now path.now walk.now j) }
 {
     let names = walk.as_slice();
     let count = names.len() as u32;
@@ -88,7 +89,8 @@ pub(crate) fn follow_some(
     requires valid { IsLine line.now }
     requires fits { FitsPath line.now path.now }
     requires walk { IsWalkOr walk.now }
-    ensures { MatchResult result (λ f. IsFollowedOr line.now path.now walk.now f) (λ j. IsFirstStrayOr line.now path.now walk.now j) }
+    ensures { MatchResult result (λ f. IsFollowedOr line.now path.now walk.now f)
+        (λ j. IsFirstStrayOr line.now path.now walk.now j) }
 {
     match walk {
         None => Ok(None),

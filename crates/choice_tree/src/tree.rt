@@ -1,5 +1,24 @@
 // Trees.
-ghost use Rattle.std.specs.Prelude.{◌≡◌, ◌+◌, ◌^◌, ◌<◌, ◌≤◌, length, [], ◌∷◌, ◌++◌, reverse, replicate, slice_set, Some, None, IsTrue, IfOk, OnOk, OnErr};
+ghost use Rattle.std.specs.Prelude.{
+  ◌≡◌,
+  ◌+◌,
+  ◌^◌,
+  ◌<◌,
+  ◌≤◌,
+  length,
+  [],
+  ◌∷◌,
+  ◌++◌,
+  reverse,
+  replicate,
+  slice_set,
+  Some,
+  None,
+  IsTrue,
+  IfOk,
+  OnOk,
+  OnErr,
+};
 ghost use Rattle.choice_tree.specs.declared.node.Node.{Node};
 ghost use Rattle.choice_tree.specs.Nodes.{node_at, IsLeft, IsLeaf, IsPathTo, numbers_from, split_at};
 ghost use Rattle.choice_tree.specs.Trees.{IsTree, preorder};
@@ -82,8 +101,9 @@ impl Tree {
         true
     }
 
-    /// Makes a node that is left a split. Its children are left with a copy of `low`, and are numbered in order from the
-    /// old `len` on. It answers true. All memory is taken before a node changes: without it the tree stays as it was.
+    /// Makes a node that is left a split. Its children are left with a copy of `low`, and are numbered in order from
+    /// the old `len` on. It answers true. All memory is taken before a node changes: without it the tree stays as it
+    /// was.
     pub fn split(
         &mut self,
         node: u32,

@@ -32,7 +32,8 @@ fn around_all(room: u32, points: &[Corner], others: &[Corner]) -> Option<Span>
     span
 }
 
-// The offsets at which the upper hoist, which follows `b`, comes nearer than `room` to the lower one, which follows `a`.
+// The offsets at which the upper hoist, which follows `b`, comes nearer than `room` to the lower one, which follows
+// `a`.
 fn too_near(a: Motion, b: Motion, room: u32) -> Option<Span>
     requires motions { IsMotion a × IsMotion b }
     ensures { result ≡ spans.around_all room (spans.corners a) (spans.corners b) }

@@ -48,8 +48,8 @@ fn quicker(first: Option<Pace>, second: Option<Pace>) -> Option<Pace>
     }
 }
 
-/// The degree of the optimal row with the least period for each carrier, the first of those that are equal; None where no
-/// row is optimal. The rows have the degrees from 1 on, and an optimal row has a period.
+/// The degree of the optimal row with the least period for each carrier, the first of those that are equal; None where
+/// no row is optimal. The rows have the degrees from 1 on, and an optimal row has a period.
 pub(crate) fn best_of(rows: &[DegreeRow]) -> Option<u32>
     requires periods { HavePeriods rows.now }
     requires degrees { HaveDegrees rows.now }

@@ -76,8 +76,8 @@ fn rows_up_to<R: Threads + Sync, G: Gate>(
     Ok(rows)
 }
 
-/// Searches the line with each degree from 1 to `upto`, 1 to 4, each under the budget of splits, and names the degree at
-/// which the period for each carrier is least. The number of workers, 1 to 64, and the gate have no part in it.
+/// Searches the line with each degree from 1 to `upto`, 1 to 4, each under the budget of splits, and names the degree
+/// at which the period for each carrier is least. The number of workers, 1 to 64, and the gate have no part in it.
 ///
 /// No legal timetable of a degree has a period below the bound of its row. Where no row is open, none of these degrees
 /// has a legal timetable, of a period that the line allows, with less period for each carrier than the best.

@@ -2,7 +2,15 @@
 ghost use Rattle.std.specs.Prelude.{◌≡◌, ◌++◌, codes, decimal, flat_map, IfOk, OnOk};
 ghost use Rattle.text_writing.specs.Texts.{end};
 ghost use Rattle.degree_sweep.specs.SweepText as texts;
-ghost use Rattle.degree_sweep.specs.SweepText.{period_text, known_text, searched_text, row_text, period_in, best_text, settled_text};
+ghost use Rattle.degree_sweep.specs.SweepText.{
+  period_text,
+  known_text,
+  searched_text,
+  row_text,
+  period_in,
+  best_text,
+  settled_text,
+};
 
 use crate::rows::DegreeRow;
 use crate::swept::Swept;

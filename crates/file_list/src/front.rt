@@ -1,5 +1,22 @@
 // The front of a list that was read: whole names, and the bytes of one that isn't ended yet.
-ghost use Rattle.std.specs.Prelude.{◌≡◌, ◌≤◌, ◌<◌, ◌⊎◌, [], ◌∷◌, ◌++◌, true, false, length, map, string_bytes, IfOk, OnOk, IfSome, None};
+ghost use Rattle.std.specs.Prelude.{
+  ◌≡◌,
+  ◌≤◌,
+  ◌<◌,
+  ◌⊎◌,
+  [],
+  ◌∷◌,
+  ◌++◌,
+  true,
+  false,
+  length,
+  map,
+  string_bytes,
+  IfOk,
+  OnOk,
+  IfSome,
+  None,
+};
 ghost use Rattle.file_list.specs.FileList.{IsName};
 ghost use Rattle.file_list.specs.Front.{IsFront, front_text, CanFollow, IsStuck};
 
@@ -62,10 +79,13 @@ impl Front {
     /// Reads one byte more, and answers whether the front goes on with it.
     pub(crate) fn take(&mut self, alloc: Global, byte: u8) -> Result<bool, AllocError>
         requires { IsFront (map string_bytes self.old.names.items) self.old.name.items }
-        ensures front { IfOk result (λ on. on ≡ true → IsFront (map string_bytes self.new.names.items) self.new.name.items) }
-        ensures text { IfOk result (λ on. on ≡ true → front_text (map string_bytes self.new.names.items) self.new.name.items
+        ensures front { IfOk result (λ on. on ≡ true
+            → IsFront (map string_bytes self.new.names.items) self.new.name.items) }
+        ensures text { IfOk result (λ on. on ≡ true
+            → front_text (map string_bytes self.new.names.items) self.new.name.items
             ≡ front_text (map string_bytes self.old.names.items) self.old.name.items ++ byte ∷ []) }
-        ensures stuck { IfOk result (λ on. on ≡ false → IsStuck (map string_bytes self.old.names.items) self.old.name.items byte) }
+        ensures stuck { IfOk result (λ on. on ≡ false
+            → IsStuck (map string_bytes self.old.names.items) self.old.name.items byte) }
     {
         if byte == b'\n' && !self.name.is_empty() {
             self.end_name(alloc)?;
@@ -80,7 +100,8 @@ impl Front {
 
     /// The list, where every name is ended and there is one at least.
     pub(crate) fn whole(self) -> Option<FileList>
-        ensures list { IfSome result (λ list. (list ≡ map string_bytes self.names.items) × (1 ≤ length list) × (self.name.items ≡ [])) }
+        ensures list { IfSome result (λ list. (list ≡ map string_bytes self.names.items) × (1 ≤ length list)
+            × (self.name.items ≡ [])) }
         ensures none { result ≡ None → (map string_bytes self.names.items ≡ []) ⊎ (1 ≤ length self.name.items) }
     {
         if self.names.is_empty() || !self.name.is_empty() {

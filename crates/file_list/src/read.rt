@@ -26,7 +26,8 @@ pub enum ListRead {
 /// Only for want of memory.
 pub fn read_list(alloc: Global, bytes: &[u8]) -> Result<ListRead, AllocError>
     ensures found { IfOk result (λ r. IsListRead bytes.now r) }
-    ensures only { (names : List (List ℕ)) → IsFileList names → bytes.now ≡ list_text names → IfOk result (λ r. r ≡ Ready names) }
+    ensures only { (names : List (List ℕ)) → IsFileList names → bytes.now ≡ list_text names
+        → IfOk result (λ r. r ≡ Ready names) }
 {
     let mut front = Front::new(alloc);
     for i in 0..bytes.len() {

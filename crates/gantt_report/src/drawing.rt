@@ -1,5 +1,20 @@
 // The chart of a period.
-ghost use Rattle.std.specs.Prelude.{◌≡◌, ℕ, ◌+◌, ◌<◌, ◌≤◌, ◌==◌, ◌++◌, codes, decimal, length, map, flat_map, OnOk, IfOk};
+ghost use Rattle.std.specs.Prelude.{
+  ◌≡◌,
+  ℕ,
+  ◌+◌,
+  ◌<◌,
+  ◌≤◌,
+  ◌==◌,
+  ◌++◌,
+  codes,
+  decimal,
+  length,
+  map,
+  flat_map,
+  OnOk,
+  IfOk,
+};
 ghost use Rattle.std.specs.List.{range_with_len, list_any};
 ghost use Rattle.hoist_base.specs.declared.tank.Tank.{Tank};
 ghost use Rattle.line_model.specs.Timetable.{position};
@@ -47,7 +62,8 @@ pub fn chart(alloc: Global, line: &Line, t: &Timetable) -> Result<Vec<u8>, Alloc
 #[tactic(auto, using(crate::proofs::Rows::cell_more))]
 // The cells of a row without hoists.
 fn ground_row(alloc: Global, line: &Line) -> Result<Vec<u8>, AllocError>
-    ensures { IfOk result (λ row. row.items ≡ map (charts.ground_cell line.now) (range_with_len 0 (line.now.track + 1))) }
+    ensures { IfOk result (λ row. row.items ≡ map (charts.ground_cell line.now)
+        (range_with_len 0 (line.now.track + 1))) }
 {
     let mut row = Vec::new(alloc);
     for x in 0..line.track() + 1 {
@@ -83,7 +99,8 @@ fn push_rows(
     requires legal { IsLegal line.now (timetable_of t.now) }
     requires marks { charts.AreMarks line.now (timetable_of t.now) marks.now }
     requires ground { ground.now ≡ map (charts.ground_cell line.now) (range_with_len 0 (line.now.track + 1)) }
-    ensures { OnOk result (text.new.items ≡ text.old.items ++ flat_map (charts.row_text line.now (timetable_of t.now)) (range_with_len 0 t.now.period)) }
+    ensures { OnOk result (text.new.items ≡ text.old.items
+        ++ flat_map (charts.row_text line.now (timetable_of t.now)) (range_with_len 0 t.now.period)) }
 {
     let mut row = Vec::from_slice(alloc, ground)?;
     for tick in 0..t.period() {
@@ -101,7 +118,8 @@ fn draw_hoists(row: &mut Vec<u8>, line: &Line, t: &Timetable, marks: &[bool], ti
     requires within { (h : ℕ) → h < line.now.hoists → position (timetable_of t.now) h tick ≤ line.now.track }
     requires marks { charts.AreMarks line.now (timetable_of t.now) marks.now }
     requires ground { row.old.items ≡ map (charts.ground_cell line.now) (range_with_len 0 (line.now.track + 1)) }
-    ensures { row.new.items ≡ map (charts.cell line.now (timetable_of t.now) tick) (range_with_len 0 (line.now.track + 1)) }
+    ensures { row.new.items ≡ map (charts.cell line.now (timetable_of t.now) tick)
+        (range_with_len 0 (line.now.track + 1)) }
 {
     for h in 0..line.hoists() {
         let at = t.position(h, tick as u64);

@@ -55,7 +55,8 @@ fn push_visit(text: &mut Vec<u8>, line: &Line, t: &Timetable, v: VisitId) -> Res
     requires fits { FitsLine line.now t.now }
     requires legal { IsLegal line.now (timetable_of t.now) }
     requires there { IsVisit line.now v.carrier v.stage }
-    ensures { OnOk result (text.new.items ≡ text.old.items ++ tables.visit_line line.now (timetable_of t.now) v.carrier v.stage) }
+    ensures { OnOk result (text.new.items ≡ text.old.items
+        ++ tables.visit_line line.now (timetable_of t.now) v.carrier v.stage) }
 {
     push_name(text, v)?;
     push_dwell(text, dwell(line, t, v))?;

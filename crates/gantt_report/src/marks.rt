@@ -30,7 +30,8 @@ fn mark_move(marks: &mut Vec<bool>, line: &Line, t: &Timetable, m: MoveId)
     requires there { IsMove line.now m.carrier m.step }
     requires room { ((timetable_of t.now).hoist m.carrier m.step + 1) * t.now.period ≤ length marks.old.items }
     ensures count { length marks.new.items ≡ length marks.old.items }
-    ensures each { (j : ℕ) → get_or marks.new.items j false ≡ (get_or marks.old.items j false || is_marked_by line.now (timetable_of t.now) j m.carrier m.step) }
+    ensures each { (j : ℕ) → get_or marks.new.items j false
+        ≡ (get_or marks.old.items j false || is_marked_by line.now (timetable_of t.now) j m.carrier m.step) }
 {
     let period = t.period() as u64;
     let row = t.hoist(m) as u64 * period;

@@ -17,7 +17,8 @@ use std::thread::Threads;
 /// What the file of this name is as a line file.
 fn read_as<F: Shelf>(alloc: Global, name: &str, shelf: &mut F) -> Result<LineRead, Stop>
     ensures read { IfOk result (λ read. IsReadAs (F.files shelf.old) name.now read) }
-    ensures refused { IfErr result (Refuses (IsFileRefusal (reading (F.files shelf.old) (F.faults shelf.old) (F.faults shelf.new)) name.now line_limit)) }
+    ensures refused { IfErr result (Refuses (IsFileRefusal
+        (reading (F.files shelf.old) (F.faults shelf.old) (F.faults shelf.new)) name.now line_limit)) }
     ensures same { F.files shelf.new ≡ F.files shelf.old }
     ensures later { F.faults shelf.old ≤ F.faults shelf.new }
 {
@@ -39,7 +40,8 @@ fn keep(reads: &mut Vec<LineRead>, read: LineRead) -> Result<(), AllocError>
 /// What the named files are as line files, in their order.
 fn reads_of<F: Shelf>(alloc: Global, names: &FileList, shelf: &mut F) -> Result<Vec<LineRead>, Stop>
     ensures reads { IfOk result (λ reads. AreReadAs (F.files shelf.old) names.now reads.items) }
-    ensures refused { IfErr result (Refuses (IsListedStop (reading (F.files shelf.old) (F.faults shelf.old) (F.faults shelf.new)) names.now)) }
+    ensures refused { IfErr result (Refuses (IsListedStop
+        (reading (F.files shelf.old) (F.faults shelf.old) (F.faults shelf.new)) names.now)) }
     ensures later { F.faults shelf.old ≤ F.faults shelf.new }
 {
     let names = names.as_slice();
@@ -63,7 +65,8 @@ pub(crate) fn batch_file<R: Threads + Sync, F: Shelf, G: Gate>(
 ) -> Result<Reply, Stop>
     requires budget { budget ≤ 500 }
     requires workers { (1 ≤ workers) × (workers ≤ 64) }
-    ensures { Gives (BatchReply (reading (F.files shelf.old) (F.faults shelf.old) (F.faults shelf.new)) list.now budget) result }
+    ensures { Gives (BatchReply (reading (F.files shelf.old) (F.faults shelf.old)
+        (F.faults shelf.new)) list.now budget) result }
 {
     let bytes = fetch(alloc, list, LINE_LIMIT, shelf)?;
     match read_list(alloc, bytes.as_slice())? {

@@ -50,7 +50,8 @@ pub(crate) fn check_file<R: Threads + Sync, F: Shelf>(
     answer: &str,
     shelf: &mut F,
 ) -> Result<Reply, Stop>
-    ensures { Gives (AnswerReply (reading (F.files shelf.old) (F.faults shelf.old) (F.faults shelf.new)) file.now answer.now IsJudged) result }
+    ensures { Gives (AnswerReply (reading (F.files shelf.old) (F.faults shelf.old)
+        (F.faults shelf.new)) file.now answer.now IsJudged) result }
 {
     let (line, answer) = line_and_answer(alloc, file, answer, shelf)?;
     let reply = judged(rt, alloc, &line, &answer)?;

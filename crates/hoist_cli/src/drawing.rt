@@ -71,7 +71,8 @@ pub(crate) fn run_file<F: Shelf>(
     shelf: &mut F,
 ) -> Result<Reply, Stop>
     requires { (1 ≤ carriers) × (carriers ≤ 1000) }
-    ensures { Gives (TimetableReply (reading (F.files shelf.old) (F.faults shelf.old) (F.faults shelf.new)) file.now answer.now (IsRunOf carriers)) result }
+    ensures { Gives (TimetableReply (reading (F.files shelf.old) (F.faults shelf.old)
+        (F.faults shelf.new)) file.now answer.now (IsRunOf carriers)) result }
 {
     let (line, answer) = line_and_answer(alloc, file, answer, shelf)?;
     let timetable = legal_timetable(alloc, &line, answer.timetable)?;
@@ -89,7 +90,8 @@ pub(crate) fn chart_file<F: Shelf>(
     answer: &str,
     shelf: &mut F,
 ) -> Result<Reply, Stop>
-    ensures { Gives (TimetableReply (reading (F.files shelf.old) (F.faults shelf.old) (F.faults shelf.new)) file.now answer.now IsChartOf) result }
+    ensures { Gives (TimetableReply (reading (F.files shelf.old) (F.faults shelf.old)
+        (F.faults shelf.new)) file.now answer.now IsChartOf) result }
 {
     let (line, answer) = line_and_answer(alloc, file, answer, shelf)?;
     let timetable = legal_timetable(alloc, &line, answer.timetable)?;
@@ -117,7 +119,8 @@ pub(crate) fn margin_file<F: Shelf>(
     answer: &str,
     shelf: &mut F,
 ) -> Result<Reply, Stop>
-    ensures { Gives (TimetableReply (reading (F.files shelf.old) (F.faults shelf.old) (F.faults shelf.new)) file.now answer.now IsMarginOf) result }
+    ensures { Gives (TimetableReply (reading (F.files shelf.old) (F.faults shelf.old)
+        (F.faults shelf.new)) file.now answer.now IsMarginOf) result }
 {
     let (line, answer) = line_and_answer(alloc, file, answer, shelf)?;
     let timetable = legal_timetable(alloc, &line, answer.timetable)?;

@@ -1,7 +1,17 @@
 // The files that a request names.
 ghost use Rattle.std.specs.Prelude.{◌≡◌, ◌≤◌, IfOk, IfErr, decimal};
 ghost use Rattle.outside.specs.Count.{Rose};
-ghost use Rattle.hoist_cli.specs.Reading.{reading, IsFile, IsFileRefusal, IsLineOf, IsLineIn, IsLineStop, IsAnswerIn, IsAnswerStop, AnswerReply};
+ghost use Rattle.hoist_cli.specs.Reading.{
+  reading,
+  IsFile,
+  IsFileRefusal,
+  IsLineOf,
+  IsLineIn,
+  IsLineStop,
+  IsAnswerIn,
+  IsAnswerStop,
+  AnswerReply,
+};
 ghost use Rattle.hoist_cli.specs.Stops.{Refuses};
 
 use crate::replies::{Stop, refusal};
@@ -28,7 +38,8 @@ pub(crate) fn fetch<F: Shelf>(
     shelf: &mut F,
 ) -> Result<Vec<u8>, Stop>
     ensures file { IfOk result (λ bytes. IsFile (F.files shelf.old) name.now limit bytes.items) }
-    ensures refused { IfErr result (Refuses (IsFileRefusal (reading (F.files shelf.old) (F.faults shelf.old) (F.faults shelf.new)) name.now limit)) }
+    ensures refused { IfErr result (Refuses (IsFileRefusal
+        (reading (F.files shelf.old) (F.faults shelf.old) (F.faults shelf.new)) name.now limit)) }
     ensures same { F.files shelf.new ≡ F.files shelf.old }
     ensures later { F.faults shelf.old ≤ F.faults shelf.new }
 {
@@ -53,7 +64,8 @@ pub(crate) fn fetch<F: Shelf>(
 /// The line of the file of this name; else the stop that says why there is none.
 pub fn line_in<F: Shelf>(alloc: Global, file: &str, shelf: &mut F) -> Result<Line, Stop>
     ensures line { IfOk result (λ l. IsLineIn (F.files shelf.old) file.now l) }
-    ensures refused { IfErr result (Refuses (IsLineStop (reading (F.files shelf.old) (F.faults shelf.old) (F.faults shelf.new)) file.now)) }
+    ensures refused { IfErr result (Refuses (IsLineStop
+        (reading (F.files shelf.old) (F.faults shelf.old) (F.faults shelf.new)) file.now)) }
     ensures same { F.files shelf.new ≡ F.files shelf.old }
     ensures later { F.faults shelf.old ≤ F.faults shelf.new }
 {
@@ -88,7 +100,8 @@ fn answer_in<F: Shelf>(
     shelf: &mut F,
 ) -> Result<Answer, Stop>
     ensures answer { IfOk result (λ a. IsAnswerIn (F.files shelf.old) line.now file.now a) }
-    ensures refused { IfErr result (Refuses (IsAnswerStop (reading (F.files shelf.old) (F.faults shelf.old) (F.faults shelf.new)) line.now file.now)) }
+    ensures refused { IfErr result (Refuses (IsAnswerStop
+        (reading (F.files shelf.old) (F.faults shelf.old) (F.faults shelf.new)) line.now file.now)) }
 {
     let bytes = fetch(alloc, file, ANSWER_LIMIT, shelf)?;
     match read_answer(alloc, line, bytes.as_slice())? {
@@ -108,7 +121,8 @@ pub fn line_and_answer<F: Shelf>(
 ) -> Result<(Line, Answer), Stop>
     ensures line { IfOk result (λ x. IsLineIn (F.files shelf.old) file.now x.0) }
     ensures answer { IfOk result (λ x. IsAnswerIn (F.files shelf.old) x.0 answer.now x.1) }
-    ensures refused { IfErr result (Refuses (AnswerReply (reading (F.files shelf.old) (F.faults shelf.old) (F.faults shelf.new)) file.now answer.now (λ _ _ _ _. ⊥))) }
+    ensures refused { IfErr result (Refuses (AnswerReply
+        (reading (F.files shelf.old) (F.faults shelf.old) (F.faults shelf.new)) file.now answer.now (λ _ _ _ _. ⊥))) }
 {
     let line = line_in(alloc, file, shelf)?;
     let answer = answer_in(alloc, &line, answer, shelf)?;

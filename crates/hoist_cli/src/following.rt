@@ -43,7 +43,8 @@ pub(crate) fn follow_file<F: Shelf>(
     log: &str,
     shelf: &mut F,
 ) -> Result<Reply, Stop>
-    ensures { Gives (FollowReply (reading (F.files shelf.old) (F.faults shelf.old) (F.faults shelf.new)) file.now log.now) result }
+    ensures { Gives (FollowReply (reading (F.files shelf.old) (F.faults shelf.old)
+        (F.faults shelf.new)) file.now log.now) result }
 {
     let line = line_in(alloc, file, shelf)?;
     let bytes = fetch(alloc, log, ANSWER_LIMIT, shelf)?;

@@ -58,7 +58,8 @@ pub(crate) fn solve_file<R: Threads + Sync, F: Shelf, G: Gate>(
 ) -> Result<Reply, Stop>
     requires budget { budget ≤ 20000 }
     requires workers { (1 ≤ workers) × (workers ≤ 64) }
-    ensures { Gives (SolveReply (reading (F.files shelf.old) (F.faults shelf.old) (F.faults shelf.new)) file.now budget) result }
+    ensures { Gives (SolveReply (reading (F.files shelf.old) (F.faults shelf.old)
+        (F.faults shelf.new)) file.now budget) result }
 {
     let line = line_in(alloc, file, shelf)?;
     let reply = solved(rt, alloc, &line, budget, workers, gate)?;

@@ -7,10 +7,10 @@ use std::process::ExitCode;
 
 /// How a run of the program ends; the number is its exit status.
 ///
-/// - `Done`: the printed answer is optimal, the checked answer is accepted, the legal timetable of the answer was played
-///   or drawn, or the drill was done.
-/// - `Negative`: the line has no legal timetable up to its greatest period, the checked answer is rejected, or the answer
-///   whose timetable was to be played or drawn has none or an illegal one.
+/// - `Done`: the printed answer is optimal, the checked answer is accepted, the legal timetable of the answer was
+///   played or drawn, or the drill was done.
+/// - `Negative`: the line has no legal timetable up to its greatest period, the checked answer is rejected, or the
+///   answer whose timetable was to be played or drawn has none or an illegal one.
 /// - `Words`: the words of the program ask for nothing that it does.
 /// - `Unfinished`: the budget of splits was spent before the search ended.
 /// - `Line`: the file isn't a line file.

@@ -75,7 +75,8 @@ pub(crate) fn sweep_file<R: Threads + Sync, F: Shelf, G: Gate>(
     requires upto { (1 ≤ scope.upto) × (scope.upto ≤ 4) }
     requires budget { scope.budget ≤ 20000 }
     requires workers { (1 ≤ scope.workers) × (scope.workers ≤ 64) }
-    ensures { Gives (SweepReply (reading (F.files shelf.old) (F.faults shelf.old) (F.faults shelf.new)) file.now scope.upto scope.budget) result }
+    ensures { Gives (SweepReply (reading (F.files shelf.old) (F.faults shelf.old)
+        (F.faults shelf.new)) file.now scope.upto scope.budget) result }
 {
     let line = line_in(alloc, file, shelf)?;
     let reply = swept(rt, alloc, &line, scope, gate)?;

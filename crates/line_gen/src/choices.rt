@@ -6,8 +6,8 @@ use crate::draws::Draws;
 use std::alloc::{AllocError, Global};
 use std::marker::Model;
 
-/// The number of baths, 8 to 12, and of hoists, whether the last bath stands in the tank of the first, and for each bath
-/// a number below 80 that gives its window.
+/// The number of baths, 8 to 12, and of hoists, whether the last bath stands in the tank of the first, and for each
+/// bath a number below 80 that gives its window.
 #[derive(Debug, Drop)]
 pub(crate) struct Choices {
     pub(crate) baths: u32,

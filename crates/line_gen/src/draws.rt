@@ -30,7 +30,8 @@ impl Draws {
     pub(crate) fn next(&mut self, limit: u32) -> u32
         requires limit { 0 < limit }
         requires small { self.old.x < 2147483647 }
-        ensures next { (seed draws : ℕ) → self.old.x ≡ number_after seed draws → self.new.x ≡ number_after seed (draws + 1) }
+        ensures next { (seed draws : ℕ) → self.old.x ≡ number_after seed draws
+            → self.new.x ≡ number_after seed (draws + 1) }
         ensures small { self.new.x < 2147483647 }
         ensures value { result ≡ self.new.x % limit }
         ensures below { result < limit }

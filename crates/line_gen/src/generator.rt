@@ -17,8 +17,9 @@ const LOWER: u32 = 2;
 const SPACING: u32 = 2;
 
 #[tactic(auto, using(crate::proofs::ValidLaws::generated_line))]
-/// The line of a seed: 8 to 12 baths in a row between the load and the unload, with one or two hoists, where the last bath
-/// may be in the tank of the first. The windows of the baths are drawn too. The same seed always gives the same line.
+/// The line of a seed: 8 to 12 baths in a row between the load and the unload, with one or two hoists, where the last
+/// bath may be in the tank of the first. The windows of the baths are drawn too. The same seed always gives the same
+/// line.
 pub fn line_of(alloc: Global, seed: u32) -> Result<Line, AllocError>
     ensures line { IfOk result (λ line. line ≡ gen.generated seed) }
     ensures valid { IsLine (gen.generated seed) }
@@ -72,7 +73,8 @@ fn tank_name(alloc: Global, baths: u32, i: u32) -> Result<Name, AllocError>
 // The load, the baths in their order, and the unload.
 fn stages_of(alloc: Global, choices: &Choices) -> Result<Vec<Stage>, AllocError>
     requires { gen.AreChoices choices.now }
-    ensures { IfOk result (λ stages. stages.items ≡ map (gen.stage_of choices.now) (range_with_len 0 (choices.now.baths + 2))) }
+    ensures { IfOk result (λ stages. stages.items
+        ≡ map (gen.stage_of choices.now) (range_with_len 0 (choices.now.baths + 2))) }
 {
     let baths = choices.baths;
     let mut stages = Vec::new(alloc);
@@ -86,7 +88,8 @@ fn stages_of(alloc: Global, choices: &Choices) -> Result<Vec<Stage>, AllocError>
 
 // The stage of a station, which has one tank and no window.
 fn station(alloc: Global, tank: u32, lift: u32, lower: u32) -> Result<Stage, AllocError>
-    ensures { IfOk result (λ stage. stage ≡ record { tanks = tank ∷ []; min = 0; max = None; lift = lift; lower = lower }) }
+    ensures { IfOk result
+        (λ stage. stage ≡ record { tanks = tank ∷ []; min = 0; max = None; lift = lift; lower = lower }) }
 {
     Ok(Stage {
         tanks: Tanks::from_vec(vec![in alloc; tank]?),

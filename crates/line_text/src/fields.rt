@@ -1,6 +1,16 @@
 // The keys of a line file, table by table, with the kinds and ranges of their values.
 ghost use Rattle.std.specs.Prelude.{◌≡◌};
-ghost use Rattle.line_text.specs.Fields.{name_of, must_have, may_have, root_rules, tank_rules, first_stage_rules, single_stage_rules, inner_stage_rules, last_stage_rules};
+ghost use Rattle.line_text.specs.Fields.{
+  name_of,
+  must_have,
+  may_have,
+  root_rules,
+  tank_rules,
+  first_stage_rules,
+  single_stage_rules,
+  inner_stage_rules,
+  last_stage_rules,
+};
 
 use hoist_base::limits::{
     MAX_DEGREE, MAX_DWELL, MAX_GAP, MAX_HOISTS, MAX_LIFT, MAX_LOWER, MAX_STAGES, MAX_TANKS,

@@ -96,7 +96,8 @@ fn push_tank_number(
     item: &Value,
 ) -> Result<(), AllocError>
     ensures { OnOk result (found.new.items
-        ≡ found.old.items ++ map (λ name. unwrap_or (get_by_text numbers.now name) count) (cons_option (as_str (view item.now)) [])) }
+        ≡ found.old.items ++ map (λ name. unwrap_or (get_by_text numbers.now name) count)
+        (cons_option (as_str (view item.now)) [])) }
 {
     if let Some(name) = item.as_str() {
         found.push(number_of(numbers, count, name))?;

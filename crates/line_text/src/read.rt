@@ -3,7 +3,17 @@ ghost use Rattle.std.specs.Prelude.{◌≡◌, ◌≤◌, ◌<◌, IfOk, None, m
 ghost use Rattle.toml.specs.View.{view};
 ghost use Rattle.hoist_base.specs.Firsts.{first_some, numbers};
 ghost use Rattle.hoist_base.specs.Limits.{max_tanks, max_stages};
-ghost use Rattle.line_text.specs.File.{no_value, tank_tables, stage_tables, root_why, tank_why, stage_why, tables_why, table_read, bytes_read};
+ghost use Rattle.line_text.specs.File.{
+  no_value,
+  tank_tables,
+  stage_tables,
+  root_why,
+  tank_why,
+  stage_why,
+  tables_why,
+  table_read,
+  bytes_read,
+};
 
 use crate::fields::{
     Field, first_stage_rules, inner_stage_rules, last_stage_rules, root_rules, single_stage_rules,
@@ -104,7 +114,8 @@ fn stage_why(
 #[tactic(auto, using(hoist_base::proofs::Firsts::numbers_more, hoist_base::proofs::Firsts::numbers_none))]
 fn stages_why(alloc: Global, version: u32, stages: &[Value]) -> Result<Option<Why>, AllocError>
     requires { length stages.now ≤ max_stages }
-    ensures { IfOk result (λ why. why ≡ first_some (stage_why version (map view stages.now)) (numbers (length stages.now))) }
+    ensures { IfOk result (λ why. why ≡ first_some (stage_why version (map view stages.now))
+        (numbers (length stages.now))) }
 {
     for k in 0..stages.len() as u32 {
         if let Some(why) = stage_why(alloc, version, stages, k)? {

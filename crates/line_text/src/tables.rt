@@ -1,5 +1,21 @@
 // The rules of one table: keys that are absent, unknown, of another kind or out of range.
-ghost use Rattle.std.specs.Prelude.{◌≡◌, ◌↔◌, IfOk, IsTrue, map, Some, None, not, true, option_copied, option_map, length, find, false, string_bytes};
+ghost use Rattle.std.specs.Prelude.{
+  ◌≡◌,
+  ◌↔◌,
+  IfOk,
+  IsTrue,
+  map,
+  Some,
+  None,
+  not,
+  true,
+  option_copied,
+  option_map,
+  length,
+  find,
+  false,
+  string_bytes,
+};
 ghost use Rattle.std.specs.List.{list_all};
 ghost use Rattle.std.specs.BTreeMap.{keys, IsOrdered};
 ghost use Rattle.std.specs.String.{string_cmp};
@@ -7,7 +23,23 @@ ghost use Rattle.toml.specs.View.{view};
 ghost use Rattle.std.specs.Option.{option_map_or};
 ghost use Rattle.hoist_base.specs.Firsts.{first_some};
 ghost use Rattle.line_text.specs.Values.{elements};
-ghost use Rattle.line_text.specs.Tables.{key_at, missing_why, unknown_why, kind_why, range_why, table_why, is_kind, is_table, is_text, is_listed, is_within, is_in_range, extent, unknown_keys, first_text};
+ghost use Rattle.line_text.specs.Tables.{
+  key_at,
+  missing_why,
+  unknown_why,
+  kind_why,
+  range_why,
+  table_why,
+  is_kind,
+  is_table,
+  is_text,
+  is_listed,
+  is_within,
+  is_in_range,
+  extent,
+  unknown_keys,
+  first_text,
+};
 
 use crate::fields::{Kind, Rule};
 use crate::values::{elements, value_at};
@@ -217,7 +249,8 @@ fn is_listed(rules: &[Rule], key: &str) -> bool
 
 /// The first key that isn't listed.
 fn first_unlisted<'a>(rules: &[Rule], members: &'a Table) -> Option<&'a String>
-    ensures found { option_copied result ≡ find (λ key. not (is_listed rules.now (string_bytes key))) (keys members.now) }
+    ensures found { option_copied result ≡ find (λ key. not (is_listed rules.now (string_bytes key)))
+        (keys members.now) }
     ensures ordered { IsOrdered string_cmp members.now }
 {
     members.keys().find(|key| !is_listed(rules, key.as_str()))

@@ -1,7 +1,17 @@
 // What stands at the keys of a table.
 ghost use Rattle.std.specs.Prelude.{◌≡◌, option_map, option_copied, map};
 ghost use Rattle.toml.specs.View.{view};
-ghost use Rattle.line_text.specs.Values.{value_at, integer_at, number_if, number_at, text_if, text_at, items_at, natural, elements};
+ghost use Rattle.line_text.specs.Values.{
+  value_at,
+  integer_at,
+  number_if,
+  number_at,
+  text_if,
+  text_at,
+  items_at,
+  natural,
+  elements,
+};
 
 use crate::fields::Field;
 use toml::Value;

@@ -5,7 +5,23 @@ ghost use Rattle.hoist_base.specs.LineData.{is_single, IsStageOf};
 ghost use Rattle.line_text.specs.Fields.{name_of};
 ghost use Rattle.line_text.specs.File.{bytes_read};
 ghost use Rattle.line_text.specs.declared.why.LineRead.TheVariants.{Ready};
-ghost use Rattle.line_text.specs.Written.{one_number, one_name, root_pairs, tank_name, only_tank, all_tanks, greatest_pairs, window_pairs, quoted, names_text, pair_text, header_text, tank_text, stage_text, line_file_text};
+ghost use Rattle.line_text.specs.Written.{
+  one_number,
+  one_name,
+  root_pairs,
+  tank_name,
+  only_tank,
+  all_tanks,
+  greatest_pairs,
+  window_pairs,
+  quoted,
+  names_text,
+  pair_text,
+  header_text,
+  tank_text,
+  stage_text,
+  line_file_text,
+};
 
 use crate::fields::Field;
 use crate::texts::push_decimal;

@@ -61,7 +61,8 @@ fn is_later_carry_at(new: &Frame, old: &Frame, later: u64, h: usize) -> bool
 
 fn are_later_carries(new: &Frame, old: &Frame, later: u64) -> bool
     requires { length new.now.carry.items ≡ length old.now.carry.items }
-    ensures { IsTrue result ↔ ((h : ℕ) → h < length new.now.carry.items → CarryIsLater later (scene_of new.now) (scene_of old.now) h) }
+    ensures { IsTrue result ↔ ((h : ℕ) → h < length new.now.carry.items
+        → CarryIsLater later (scene_of new.now) (scene_of old.now) h) }
 {
     for h in 0..new.carry.len() {
         if !is_later_carry_at(new, old, later, h) {
@@ -81,7 +82,8 @@ fn is_later_hold_at(new: &Frame, old: &Frame, later: u64, i: usize) -> bool
 
 fn are_later_holds(new: &Frame, old: &Frame, later: u64) -> bool
     requires { length new.now.hold.items ≡ length old.now.hold.items }
-    ensures { IsTrue result ↔ ((i : ℕ) → i < length new.now.hold.items → HoldIsLater later (scene_of new.now) (scene_of old.now) i) }
+    ensures { IsTrue result ↔ ((i : ℕ) → i < length new.now.hold.items
+        → HoldIsLater later (scene_of new.now) (scene_of old.now) i) }
 {
     for i in 0..new.hold.len() {
         if !is_later_hold_at(new, old, later, i) {

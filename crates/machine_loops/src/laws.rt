@@ -7,8 +7,8 @@ pub fn loops_are_timetables()
     ensures { LoopsAreTimetables }
 {}
 
-/// Where no legal timetable has a smaller period than some number, no loop is shorter: so none is shorter than the least
-/// period of a legal timetable.
+/// Where no legal timetable has a smaller period than some number, no loop is shorter: so none is shorter than the
+/// least period of a legal timetable.
 pub fn no_loop_is_shorter()
     ensures { NoLoopIsShorter }
 {}

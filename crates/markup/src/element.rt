@@ -1,7 +1,18 @@
 // Elements.
 ghost use Rattle.std.specs.Prelude.{◌≡◌, ◌++◌, decimal, OnOk, IfOk};
 ghost use Rattle.markup.specs.Words.{is_void};
-ghost use Rattle.markup.specs.Forms.{fresh, having, saying, holding, start_text, rest_text, form_text, attribute_text, AreAttributes, IsInside};
+ghost use Rattle.markup.specs.Forms.{
+  fresh,
+  having,
+  saying,
+  holding,
+  start_text,
+  rest_text,
+  form_text,
+  attribute_text,
+  AreAttributes,
+  IsInside,
+};
 
 use crate::escape::push_escaped;
 use crate::words::{Key, Tag};

@@ -53,7 +53,8 @@ impl Model for Expander {
 
     ghost view = { λ e. e.line };
 
-    ghost invariant = { λ e. IsPathSystem e.line e.at × IsReachOf e.line e.reach × IsLookupOf e.line e.lookup × AreClimbs e.line e.climbs };
+    ghost invariant = { λ e. IsPathSystem e.line e.at × IsReachOf e.line e.reach × IsLookupOf e.line e.lookup
+        × AreClimbs e.line e.climbs };
 }
 
 // The solved path, where these ticks leave no question.
@@ -89,7 +90,8 @@ fn find_climb(climbs: &mut Climbs, path: &[Decision], cap: u32) -> Option<usize>
     requires few { (length climbs.old.kept.items ≤ 512) × (climbs.old.found ≤ 512) }
     ensures same { (climbs.new.kept ≡ climbs.old.kept) × (climbs.new.next ≡ climbs.old.next) }
     ensures found { climbs.new.found ≤ 512 }
-    ensures climb { IfSome result (λ k. (n : ℕ) × (n ≤ length path.now) × EndsInHoists path.now n × IsClimbOf (take n path.now) cap climbs.new k) }
+    ensures climb { IfSome result (λ k. (n : ℕ) × (n ≤ length path.now) × EndsInHoists path.now n
+        × IsClimbOf (take n path.now) cap climbs.new k) }
 {
     let count = without_hoists(path);
     if count == path.len() {

@@ -58,7 +58,8 @@ pub(crate) enum PathClimb {
 // The names of a walk that may be missing.
 fn proof_of(alloc: Global, at: &PathSystem, walk: Option<Walk>) -> Result<Option<Proof>, AllocError>
     requires { IfSome walk (λ w. (k : ℕ) → k < length w.arcs → get_or w.arcs k 0 < length at.now.names.items) }
-    ensures { IfOk result (λ proof. proof ≡ option_map (λ w. map (λ k. get_or at.now.names.items k (Constraint.Entry 0)) w.arcs) walk) }
+    ensures { IfOk result (λ proof. proof ≡ option_map
+        (λ w. map (λ k. get_or at.now.names.items k (Constraint.Entry 0)) w.arcs) walk) }
 {
     match walk {
         None => Ok(None),

@@ -1,5 +1,19 @@
 // The names of the constraints that stand on every path, in their order.
-ghost use Rattle.std.specs.Prelude.{◌≡◌, ◌+◌, ◌<◌, ◌≤◌, [], ◌∷◌, ◌++◌, map, flat_map, is_some, if◌then◌else◌, IfOk, OnOk};
+ghost use Rattle.std.specs.Prelude.{
+  ◌≡◌,
+  ◌+◌,
+  ◌<◌,
+  ◌≤◌,
+  [],
+  ◌∷◌,
+  ◌++◌,
+  map,
+  flat_map,
+  is_some,
+  if◌then◌else◌,
+  IfOk,
+  OnOk,
+};
 ghost use Rattle.hoist_base.specs.LineData.{stage};
 ghost use Rattle.hoist_base.specs.Valid.{IsLine};
 ghost use Rattle.choice_tree.specs.declared.constraint.Constraint.{Constraint};
@@ -21,7 +35,9 @@ fn push_mins(names: &mut Vec<Constraint>, c: u32, count: u32) -> Result<(), Allo
 }
 
 fn push_maxes(names: &mut Vec<Constraint>, line: &Line, c: u32) -> Result<(), AllocError>
-    ensures { OnOk result (names.new.items ≡ names.old.items ++ flat_map (λ k. if is_some (stage line.now k).max then Constraint.Max c k ∷ [] else []) (inner_stages line.now)) }
+    ensures { OnOk result (names.new.items ≡ names.old.items
+        ++ flat_map (λ k. if is_some (stage line.now k).max then Constraint.Max c k ∷ [] else [])
+        (inner_stages line.now)) }
 {
     let count = line.inner();
     for k in 1..count + 1 {
@@ -34,7 +50,8 @@ fn push_maxes(names: &mut Vec<Constraint>, line: &Line, c: u32) -> Result<(), Al
 
 fn push_visits(names: &mut Vec<Constraint>, c: u32, count: u32) -> Result<(), AllocError>
     requires { count ≤ 31 }
-    ensures { OnOk result (names.new.items ≡ names.old.items ++ map (λ k. Constraint.Visit c k) (numbers_from 1 count)) }
+    ensures { OnOk result (names.new.items ≡ names.old.items
+        ++ map (λ k. Constraint.Visit c k) (numbers_from 1 count)) }
 {
     for k in 1..count + 1 {
         names.push(Constraint::Visit { c, k })?;
@@ -44,7 +61,8 @@ fn push_visits(names: &mut Vec<Constraint>, c: u32, count: u32) -> Result<(), Al
 
 fn push_repeats(names: &mut Vec<Constraint>, c: u32, count: u32) -> Result<(), AllocError>
     requires { count ≤ 31 }
-    ensures { OnOk result (names.new.items ≡ names.old.items ++ map (λ k. Constraint.Repeat c k) (numbers_from 0 count)) }
+    ensures { OnOk result (names.new.items ≡ names.old.items
+        ++ map (λ k. Constraint.Repeat c k) (numbers_from 0 count)) }
 {
     for k in 0..count {
         names.push(Constraint::Repeat { c, k })?;

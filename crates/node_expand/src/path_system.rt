@@ -185,7 +185,8 @@ impl PathSystem {
     /// The names of the constraints of a walk.
     pub(crate) fn proof_of(&self, alloc: Global, walk: &Walk) -> Result<Proof, AllocError>
         requires { (k : ℕ) → k < length walk.now.arcs → get_or walk.now.arcs k 0 < length self.now.names.items }
-        ensures { IfOk result (λ proof. proof ≡ map (λ k. get_or self.now.names.items k (Constraint.Entry 0)) walk.now.arcs) }
+        ensures { IfOk result (λ proof. proof ≡ map
+            (λ k. get_or self.now.names.items k (Constraint.Entry 0)) walk.now.arcs) }
     {
         let arcs = walk.arcs();
         let mut names = Vec::with_capacity(alloc, arcs.len())?;

@@ -31,7 +31,8 @@ pub(crate) fn hoists_of(alloc: Global, line: &Line, path: &[Decision]) -> Result
     requires fits { FitsPath line.now path.now }
     requires settled { HasHoists line.now path.now }
     ensures count { IfOk result (λ hoists. length hoists ≡ move_count line.now) }
-    ensures value { IfOk result (λ hoists. (c k : ℕ) → IsMove line.now c k → below.hoist_below line.now path.now c k ≡ Some (get_or hoists (move_number line.now c k) 0)) }
+    ensures value { IfOk result (λ hoists. (c k : ℕ) → IsMove line.now c k
+        → below.hoist_below line.now path.now c k ≡ Some (get_or hoists (move_number line.now c k) 0)) }
 {
     let count = line.move_count();
     let mut numbers = Vec::with_capacity(alloc, count as usize)?;
@@ -46,7 +47,8 @@ pub(crate) fn route_of(alloc: Global, line: &Line, path: &[Decision]) -> Result<
     requires fits { FitsPath line.now path.now }
     requires settled { HasTanks line.now path.now }
     ensures route { IfOk result (λ route. IsRoute line.now route) }
-    ensures value { IfOk result (λ route. (c k : ℕ) → IsVisit line.now c k → tank_below line.now path.now c k ≡ Some (route_tank line.now route c k)) }
+    ensures value { IfOk result (λ route. (c k : ℕ) → IsVisit line.now c k
+        → tank_below line.now path.now c k ≡ Some (route_tank line.now route c k)) }
 {
     let count = line.visit_count();
     let mut numbers = Vec::with_capacity(alloc, count as usize)?;

@@ -25,7 +25,9 @@ pub(crate) struct Reach {
 fn first_stuck_step(line: &Line, path: &[Decision], carrier: u32) -> Option<u32>
     requires fits { FitsPath line.now path.now }
     requires there { carrier < line.now.degree }
-    ensures { MatchOption result ((k : ℕ) → IsStep line.now k → IsStuck line.now path.now carrier k → ⊥) (λ step. IsStep line.now step × IsStuck line.now path.now carrier step × ((k : ℕ) → k < step → IsStuck line.now path.now carrier k → ⊥)) }
+    ensures { MatchOption result ((k : ℕ) → IsStep line.now k → IsStuck line.now path.now carrier k → ⊥)
+        (λ step. IsStep line.now step × IsStuck line.now path.now carrier step
+        × ((k : ℕ) → k < step → IsStuck line.now path.now carrier k → ⊥)) }
 {
     for step in 0..line.inner() + 1 {
         if is_stuck(line, path, MoveId { carrier, step }) {

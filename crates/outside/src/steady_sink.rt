@@ -1,5 +1,19 @@
 // Bytes in memory that take every piece.
-ghost use Rattle.std.specs.Prelude.{◌≡◌, ◌<◌, ◌≤◌, ◌++◌, [], length, Some, IfOk, IfErr, OnOk, OnErr, IsErrOf, alloc_error};
+ghost use Rattle.std.specs.Prelude.{
+  ◌≡◌,
+  ◌<◌,
+  ◌≤◌,
+  ◌++◌,
+  [],
+  length,
+  Some,
+  IfOk,
+  IfErr,
+  OnOk,
+  OnErr,
+  IsErrOf,
+  alloc_error,
+};
 ghost use Rattle.outside.specs.Count.{Rose, next_count};
 ghost use Rattle.outside.specs.Sink.{taken};
 

@@ -55,8 +55,10 @@ pub(crate) fn hold_of(line: &Line, path: &[Decision], visit: VisitId, ticks: &[i
     requires fits { FitsPath line.now path.now }
     requires there { IsVisit line.now visit.carrier visit.stage }
     requires ticks { AreTicks line.now ticks.now }
-    ensures begin { result.begin ≡ holds.tick_of line.now (tick_at ticks.now) (holds.begin_of line.now (tanks.low line.now path.now) visit.carrier visit.stage) }
-    ensures end { result.end ≡ holds.tick_of line.now (tick_at ticks.now) (holds.end_of line.now (tanks.low line.now path.now) visit.carrier visit.stage) }
+    ensures begin { result.begin ≡ holds.tick_of line.now (tick_at ticks.now)
+        (holds.begin_of line.now (tanks.low line.now path.now) visit.carrier visit.stage) }
+    ensures end { result.end ≡ holds.tick_of line.now (tick_at ticks.now)
+        (holds.end_of line.now (tanks.low line.now path.now) visit.carrier visit.stage) }
     ensures small { (unsigned_abs result.begin ≤ 10000000022000) × (unsigned_abs result.end ≤ 10000000022000) }
 {
     let last = end_below(line, path, visit);
@@ -89,7 +91,8 @@ fn hold_together(a: Hold, b: Hold, q: i64, period: u32) -> bool
     requires first { (unsigned_abs a.begin ≤ 10000000022000) × (unsigned_abs a.end ≤ 10000000022000) }
     requires second { (unsigned_abs b.begin ≤ 10000000022000) × (unsigned_abs b.end ≤ 10000000022000) }
     requires q { unsigned_abs q ≤ 1000000000 }
-    ensures { IsTrue result ↔ ((holds.periods_later b.begin q period <ℤ a.end) × (a.begin <ℤ holds.periods_later b.end q period)) }
+    ensures { IsTrue result ↔ ((holds.periods_later b.begin q period <ℤ a.end)
+        × (a.begin <ℤ holds.periods_later b.end q period)) }
 {
     let begin = later(b.begin, q, period);
     let end = later(b.end, q, period);

@@ -50,8 +50,8 @@ fn lowering(ticks: u32, lower: u32) -> i64
     i64::from(ticks) - i64::from(lower)
 }
 
-/// When the hold of a visit begins: with the least time at the load station, or with the lowering at the end of the move
-/// before it, which lasts so many ticks.
+/// When the hold of a visit begins: with the least time at the load station, or with the lowering at the end of the
+/// move before it, which lasts so many ticks.
 pub fn begin_of(line: &Line, visit: VisitId, lasting: u32) -> Moment
     requires there { IsVisit line.now visit.carrier visit.stage }
     requires lasting { lasting ≤ 2000 }

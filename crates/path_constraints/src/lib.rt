@@ -1,4 +1,5 @@
-// Constraints and questions below a path of decisions, and that no legal timetable falls between the branches of a tree.
+// Constraints and questions below a path of decisions, and that no legal timetable falls between the branches of a
+// tree.
 #![tactic(auto)]
 
 mod arcs;

@@ -6,7 +6,16 @@ ghost use Rattle.hoist_base.specs.Valid.{IsLine};
 ghost use Rattle.path_constraints.specs.Tanks as tanks;
 ghost use Rattle.path_constraints.specs.Hoists as hoists;
 ghost use Rattle.path_constraints.specs.Questions as questions;
-ghost use Rattle.path_constraints.specs.Questions.{IsBefore, HasBegin, ShareTank, MayClash, IsOpenVisit, IsOpenMove, FitsPath, Fits};
+ghost use Rattle.path_constraints.specs.Questions.{
+  IsBefore,
+  HasBegin,
+  ShareTank,
+  MayClash,
+  IsOpenVisit,
+  IsOpenMove,
+  FitsPath,
+  Fits,
+};
 
 use crate::rides::{assigned_of, clash_below, motion_below, reaching_count};
 use crate::tanks::{choice_of, tanks_below};

@@ -1,12 +1,35 @@
 // The constraints of a path as a system, and how a decision extends it.
-ghost use Rattle.std.specs.Prelude.{◌≡◌, ◌+◌, ◌≤◌, ◌<◌, ◌↔◌, [], length, take, true, Contains, IsSome, IfSome, IfOk, OnOk, OnErr};
+ghost use Rattle.std.specs.Prelude.{
+  ◌≡◌,
+  ◌+◌,
+  ◌≤◌,
+  ◌<◌,
+  ◌↔◌,
+  [],
+  length,
+  take,
+  true,
+  Contains,
+  IsSome,
+  IfSome,
+  IfOk,
+  OnOk,
+  OnErr,
+};
 ghost use Rattle.hoist_base.specs.LineData.{IsVisit, stage, move_count};
 ghost use Rattle.hoist_base.specs.Valid.{IsLine};
 ghost use Rattle.longest_path.specs.System.{IsArc};
 ghost use Rattle.path_constraints.specs.Questions.{FitsPath};
 ghost use Rattle.path_constraints.specs.Constraints.{IsConstraint, constraint_list};
 ghost use Rattle.path_constraints.specs.Constraints as constraints;
-ghost use Rattle.path_constraints.specs.Places.{system_below, HasPlaces, Rewrites, IsOfCarrier, IsOfVisit, undecided_count};
+ghost use Rattle.path_constraints.specs.Places.{
+  system_below,
+  HasPlaces,
+  Rewrites,
+  IsOfCarrier,
+  IsOfVisit,
+  undecided_count,
+};
 
 use crate::arcs::{arc_of, decided_arc, is_constraint};
 use crate::places::{undecided, write, write_move};
@@ -67,7 +90,8 @@ pub fn system_of(alloc: Global, line: &Line, path: &[Decision]) -> Result<System
     Ok(s)
 }
 
-// Writes the constraints of the moves before and after a visit into their places; its stage has a choice, so it is inner.
+// Writes the constraints of the moves before and after a visit into their places; its stage has a choice, so it is
+// inner.
 fn write_visit(s: &mut System, line: &Line, path: &[Decision], visit: VisitId)
     requires fits { FitsPath line.now path.now }
     requires there { IsVisit line.now visit.carrier visit.stage }

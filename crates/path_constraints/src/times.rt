@@ -78,9 +78,12 @@ fn widened_from(line: &Line, step: u32, from: u32, to: &[u32], seen: Times) -> T
     requires from { from < length line.now.tanks }
     requires to { (i : ℕ) → i < length to.now → get_or to.now i 0 < length line.now.tanks }
     requires small { (seen.low ≤ 2000) × (seen.high ≤ 2000) × (seen.back ≤ 3000) }
-    ensures low { result.low ≡ fold min seen.low (map motion.duration (map (λ j. motion.motion_between line.now step from j) to.now)) }
-    ensures high { result.high ≡ fold max seen.high (map motion.duration (map (λ j. motion.motion_between line.now step from j) to.now)) }
-    ensures back { result.back ≡ fold min seen.back (map below.there_and_back (map (λ j. motion.motion_between line.now step from j) to.now)) }
+    ensures low { result.low ≡ fold min seen.low
+        (map motion.duration (map (λ j. motion.motion_between line.now step from j) to.now)) }
+    ensures high { result.high ≡ fold max seen.high
+        (map motion.duration (map (λ j. motion.motion_between line.now step from j) to.now)) }
+    ensures back { result.back ≡ fold min seen.back
+        (map below.there_and_back (map (λ j. motion.motion_between line.now step from j) to.now)) }
     ensures small { (result.low ≤ 2000) × (result.high ≤ 2000) × (result.back ≤ 3000) }
 {
     let mut times = seen;

@@ -1,11 +1,45 @@
 // The first two fixed points that contradict one another.
-ghost use Rattle.std.specs.Prelude.{◌≡◌, ◌<◌, ◌≤◌, ◌+◌, ◌*◌, ◌/◌, ◌%◌, ◌↔◌, ◌≤ℤ◌, ◌-ℤ◌, ℕ, ℤ, pos, length, get_or, unsigned_abs, IsTrue, MatchOption};
+ghost use Rattle.std.specs.Prelude.{
+  ◌≡◌,
+  ◌<◌,
+  ◌≤◌,
+  ◌+◌,
+  ◌*◌,
+  ◌/◌,
+  ◌%◌,
+  ◌↔◌,
+  ◌≤ℤ◌,
+  ◌-ℤ◌,
+  ℕ,
+  ℤ,
+  pos,
+  length,
+  get_or,
+  unsigned_abs,
+  IsTrue,
+  MatchOption,
+};
 ghost use Rattle.hoist_base.specs.LineData.{last_stage, move_count};
 ghost use Rattle.hoist_base.specs.Routes.{IsRoute, route_tank};
 ghost use Rattle.line_model.specs.Motion.{IsMotion, motion_by};
 ghost use Rattle.path_envelope.specs.Duties.{duties, Agree, Contradict, apart};
 ghost use Rattle.path_envelope.specs.FirstClash as turns;
-ghost use Rattle.path_envelope.specs.FirstClash.{Given, IsGiven, IsPartner, HasPartner, IsFirstPartner, IsFirstClash, IsNearestTick, NoneOfMove, NoneOfHoist, IsFirstOfMove, IsFirstOfHoist, IsNearestCopy, AreClash, IsSmall};
+ghost use Rattle.path_envelope.specs.FirstClash.{
+  Given,
+  IsGiven,
+  IsPartner,
+  HasPartner,
+  IsFirstPartner,
+  IsFirstClash,
+  IsNearestTick,
+  NoneOfMove,
+  NoneOfHoist,
+  IsFirstOfMove,
+  IsFirstOfHoist,
+  IsNearestCopy,
+  AreClash,
+  IsSmall,
+};
 ghost use Rattle.path_envelope.specs.Slots.{AreMoves};
 
 use crate::duties::Duties;
@@ -13,11 +47,14 @@ use crate::point::Point;
 use hoist_base::{Line, Route};
 use move_list::{Motion, duration, motion_of, place};
 
-/// The first fixed point of the starts as given that contradicts another or a copy of it, by hoist, then by move, then by
-/// tick; and the first one that it contradicts, in its nearest copy. None where no two fixed points contradict one another.
+/// The first fixed point of the starts as given that contradicts another or a copy of it, by hoist, then by move, then
+/// by tick; and the first one that it contradicts, in its nearest copy. None where no two fixed points contradict one
+/// another.
 pub(crate) fn first_clash(asked: Duties) -> Option<(Point, Point)>
     requires moves { AreMoves asked.line.now asked.route.now asked.period asked.starts.now asked.hoists.now }
-    ensures { let p = duties asked.entry.line.now asked.entry.route.now asked.entry.period asked.entry.starts.now asked.entry.hoists.now in MatchOption result (Agree asked.entry.line.now p) (λ pair. IsFirstClash asked.entry.line.now p pair.0 pair.1) }
+    ensures { let p = duties asked.entry.line.now asked.entry.route.now asked.entry.period asked.entry.starts.now
+        asked.entry.hoists.now in MatchOption result (Agree asked.entry.line.now p)
+        (λ pair. IsFirstClash asked.entry.line.now p pair.0 pair.1) }
 {
     for h in 0..asked.line.hoists() {
         if let Some(pair) = clash_of_hoist(asked, h) {
@@ -30,7 +67,11 @@ pub(crate) fn first_clash(asked: Duties) -> Option<(Point, Point)>
 // The same among the fixed points of one hoist.
 fn clash_of_hoist(asked: Duties, h: u32) -> Option<(Point, Point)>
     requires moves { AreMoves asked.line.now asked.route.now asked.period asked.starts.now asked.hoists.now }
-    ensures { let p = duties asked.entry.line.now asked.entry.route.now asked.entry.period asked.entry.starts.now asked.entry.hoists.now in MatchOption result (NoneOfHoist asked.entry.line.now p (HasPartner asked.entry.line.now p) h (move_count asked.entry.line.now)) (λ pair. (g : Given) × IsFirstOfHoist asked.entry.line.now p (HasPartner asked.entry.line.now p) h g × AreClash asked.entry.line.now p g pair) }
+    ensures { let p = duties asked.entry.line.now asked.entry.route.now asked.entry.period asked.entry.starts.now
+        asked.entry.hoists.now in MatchOption result
+        (NoneOfHoist asked.entry.line.now p (HasPartner asked.entry.line.now p) h (move_count asked.entry.line.now))
+        (λ pair. (g : Given) × IsFirstOfHoist asked.entry.line.now p (HasPartner asked.entry.line.now p) h g
+        × AreClash asked.entry.line.now p g pair) }
 {
     for number in 0..asked.line.move_count() {
         if asked.hoists[number as usize] == h {
@@ -46,7 +87,11 @@ fn clash_of_hoist(asked: Duties, h: u32) -> Option<(Point, Point)>
 fn clash_of_move(asked: Duties, number: u32) -> Option<(Point, Point)>
     requires moves { AreMoves asked.line.now asked.route.now asked.period asked.starts.now asked.hoists.now }
     requires number { number < move_count asked.line.now }
-    ensures { let p = duties asked.entry.line.now asked.entry.route.now asked.entry.period asked.entry.starts.now asked.entry.hoists.now in MatchOption result (NoneOfMove asked.entry.line.now p (HasPartner asked.entry.line.now p) number) (λ pair. (g : Given) × IsFirstOfMove asked.entry.line.now p (HasPartner asked.entry.line.now p) number g × AreClash asked.entry.line.now p g pair) }
+    ensures { let p = duties asked.entry.line.now asked.entry.route.now asked.entry.period asked.entry.starts.now
+        asked.entry.hoists.now in MatchOption result
+        (NoneOfMove asked.entry.line.now p (HasPartner asked.entry.line.now p) number)
+        (λ pair. (g : Given) × IsFirstOfMove asked.entry.line.now p (HasPartner asked.entry.line.now p) number g
+        × AreClash asked.entry.line.now p g pair) }
 {
     let motion = motion_by_number(asked.line, asked.route, number);
     let start = asked.starts[number as usize];
@@ -67,7 +112,10 @@ fn clash_of_move(asked: Duties, number: u32) -> Option<(Point, Point)>
 fn first_partner(asked: Duties, x: Point) -> Option<Point>
     requires moves { AreMoves asked.line.now asked.route.now asked.period asked.starts.now asked.hoists.now }
     requires small { IsSmall asked.line.now x }
-    ensures { let p = duties asked.entry.line.now asked.entry.route.now asked.entry.period asked.entry.starts.now asked.entry.hoists.now in MatchOption result ((g : Given) → IsGiven asked.entry.line.now p g → IsPartner asked.entry.line.now p x g → ⊥) (λ y. IsFirstPartner asked.entry.line.now p x y) }
+    ensures { let p = duties asked.entry.line.now asked.entry.route.now asked.entry.period asked.entry.starts.now
+        asked.entry.hoists.now in MatchOption result
+        ((g : Given) → IsGiven asked.entry.line.now p g → IsPartner asked.entry.line.now p x g → ⊥)
+        (λ y. IsFirstPartner asked.entry.line.now p x y) }
 {
     for h in 0..asked.line.hoists() {
         if let Some(y) = partner_of_hoist(asked, h, x) {
@@ -81,7 +129,11 @@ fn first_partner(asked: Duties, x: Point) -> Option<Point>
 fn partner_of_hoist(asked: Duties, h: u32, x: Point) -> Option<Point>
     requires moves { AreMoves asked.line.now asked.route.now asked.period asked.starts.now asked.hoists.now }
     requires small { IsSmall asked.line.now x }
-    ensures { let p = duties asked.entry.line.now asked.entry.route.now asked.entry.period asked.entry.starts.now asked.entry.hoists.now in MatchOption result (NoneOfHoist asked.entry.line.now p (IsPartner asked.entry.line.now p x) h (move_count asked.entry.line.now)) (λ y. (g : Given) × IsFirstOfHoist asked.entry.line.now p (IsPartner asked.entry.line.now p x) h g × IsNearestCopy asked.entry.line.now p x g y) }
+    ensures { let p = duties asked.entry.line.now asked.entry.route.now asked.entry.period asked.entry.starts.now
+        asked.entry.hoists.now in MatchOption result
+        (NoneOfHoist asked.entry.line.now p (IsPartner asked.entry.line.now p x) h (move_count asked.entry.line.now))
+        (λ y. (g : Given) × IsFirstOfHoist asked.entry.line.now p (IsPartner asked.entry.line.now p x) h g
+        × IsNearestCopy asked.entry.line.now p x g y) }
 {
     for number in 0..asked.line.move_count() {
         if asked.hoists[number as usize] == h {
@@ -98,7 +150,11 @@ fn partner_of_move(asked: Duties, number: u32, x: Point) -> Option<Point>
     requires moves { AreMoves asked.line.now asked.route.now asked.period asked.starts.now asked.hoists.now }
     requires number { number < move_count asked.line.now }
     requires small { IsSmall asked.line.now x }
-    ensures { let p = duties asked.entry.line.now asked.entry.route.now asked.entry.period asked.entry.starts.now asked.entry.hoists.now in MatchOption result (NoneOfMove asked.entry.line.now p (IsPartner asked.entry.line.now p x) number) (λ y. (g : Given) × IsFirstOfMove asked.entry.line.now p (IsPartner asked.entry.line.now p x) number g × IsNearestCopy asked.entry.line.now p x g y) }
+    ensures { let p = duties asked.entry.line.now asked.entry.route.now asked.entry.period asked.entry.starts.now
+        asked.entry.hoists.now in MatchOption result
+        (NoneOfMove asked.entry.line.now p (IsPartner asked.entry.line.now p x) number)
+        (λ y. (g : Given) × IsFirstOfMove asked.entry.line.now p (IsPartner asked.entry.line.now p x) number g
+        × IsNearestCopy asked.entry.line.now p x g y) }
 {
     let motion = motion_by_number(asked.line, asked.route, number);
     let start = asked.starts[number as usize];
@@ -119,7 +175,8 @@ fn partner_of_move(asked: Duties, number: u32, x: Point) -> Option<Point>
 fn motion_by_number(line: &Line, route: &Route, number: u32) -> Motion
     requires route { IsRoute line.now route.now }
     requires number { number < move_count line.now }
-    ensures value { result ≡ motion_by line.now (route_tank line.now route.now (number / last_stage line.now)) (number % last_stage line.now) }
+    ensures value { result ≡ motion_by line.now (route_tank line.now route.now (number / last_stage line.now))
+        (number % last_stage line.now) }
     ensures motion { IsMotion result }
     ensures moves { 1 ≤ last_stage line.now }
 {

@@ -8,8 +8,8 @@ pub struct Point {
     pub at: u32,
 }
 
-/// What `paths` answers: the lowest paths, hoist h at tick t at h * period + t, or two fixed points that no positions on the
-/// track meet together.
+/// What `paths` answers: the lowest paths, hoist h at tick t at h * period + t, or two fixed points that no positions
+/// on the track meet together.
 #[derive(Debug, Drop)]
 pub enum Traced {
     Made(Vec<u32>),

@@ -6,8 +6,8 @@ ghost use Rattle.path_envelope.specs.Rows.{IsRaised, IsLeastRow, ComesFrom, carr
 use hoist_base::Line;
 
 /// Writes one hoist's row of a period: the least positions, by tick, that are at or above h times the gap, every fixed
-/// position and the row below with a gap between, and that change by at most 1 from each tick to the next, the last to the
-/// first too.
+/// position and the row below with a gap between, and that change by at most 1 from each tick to the next, the last to
+/// the first too.
 pub fn sweep(
     line: &Line,
     period: u32,
@@ -23,7 +23,8 @@ pub fn sweep(
     requires low_small { IfSome low (λ below. (t : ℕ) → get_or below.now t 0 ≤ line.now.track) }
     requires into { length into.old ≡ period }
     ensures least { IsLeastRow line.now period h fixed.now (option_map (λ below. below.now) low.entry) into.new }
-    ensures from { ComesFrom period (need line.now h fixed.now (option_map (λ below. below.now) low.entry)) (λ t. get_or into.new t 0) }
+    ensures from { ComesFrom period (need line.now h fixed.now (option_map (λ below. below.now) low.entry))
+        (λ t. get_or into.new t 0) }
 {
     write_needs(line, h, fixed, low, into);
     raise_after(into);
@@ -39,7 +40,8 @@ fn write_needs(line: &Line, h: u32, fixed: &[Option<u32>], low: Option<&[u32]>, 
     requires low { IfSome low (λ below. length below.now ≡ length into.old) }
     requires low_small { IfSome low (λ below. (t : ℕ) → get_or below.now t 0 ≤ line.now.track) }
     ensures count { length into.new ≡ length into.old }
-    ensures needs { (t : ℕ) → t < length into.new → get_or into.new t 0 ≡ need line.now h fixed.now (option_map (λ below. below.now) low.entry) t }
+    ensures needs { (t : ℕ) → t < length into.new
+        → get_or into.new t 0 ≡ need line.now h fixed.now (option_map (λ below. below.now) low.entry) t }
 {
     let gap = line.gap();
     let room = h * gap;
@@ -52,7 +54,8 @@ fn write_needs(line: &Line, h: u32, fixed: &[Option<u32>], low: Option<&[u32]>, 
     }
 }
 
-// Raises a row no more than needed, so that it falls by at most 1 from each tick to the next, the last to the first too.
+// Raises a row no more than needed, so that it falls by at most 1 from each tick to the next, the last to the first
+// too.
 fn raise_after(row: &mut [u32])
     ensures count { length row.new ≡ length row.old }
     ensures raised { IsRaised (length row.old) (λ t. get_or row.old t 0) (λ t. get_or row.new t 0) }

@@ -10,15 +10,19 @@ ghost use Rattle.path_envelope.specs.Slots.{IsWritten, IsDouble, IsTable};
 use crate::duties::Duties;
 use move_list::{Motion, duration, motion_of, place};
 
-/// Writes where a hoist has to be at each tick of the period; false where two of its moves, or one, ask two positions of it
-/// at one tick.
+/// Writes where a hoist has to be at each tick of the period; false where two of its moves, or one, ask two positions
+/// of it at one tick.
 pub(crate) fn write_hoist(asked: Duties, h: u32, table: &mut [Option<u32>]) -> bool
     requires route { IsRoute asked.line.now asked.route.now }
     requires period { 1 ≤ asked.period }
-    requires starts { (length asked.starts.now ≡ move_count asked.line.now) × ((i : ℕ) → get_or asked.starts.now i 0 ≤ 1000000000) }
+    requires starts { (length asked.starts.now ≡ move_count asked.line.now)
+        × ((i : ℕ) → get_or asked.starts.now i 0 ≤ 1000000000) }
     requires hoists { length asked.hoists.now ≡ move_count asked.line.now }
     requires table { length table.old ≡ asked.period }
-    ensures { let p = duties asked.entry.line.now asked.entry.route.now asked.entry.period asked.entry.starts.now asked.entry.hoists.now in MatchBool result (IsTable asked.entry.line.now p h (move_count asked.entry.line.now) table.new) (Agree asked.entry.line.now p → ⊥) }
+    ensures { let p = duties asked.entry.line.now asked.entry.route.now asked.entry.period asked.entry.starts.now
+        asked.entry.hoists.now in MatchBool result
+        (IsTable asked.entry.line.now p h (move_count asked.entry.line.now) table.new)
+        (Agree asked.entry.line.now p → ⊥) }
 {
     table.fill(None);
     for number in 0..asked.line.move_count() {
@@ -37,7 +41,8 @@ fn write_motion(motion: Motion, start: u64, period: u32, table: &mut [Option<u32
     requires motion { IsMotion motion }
     requires start { start ≤ 1000000000 }
     requires period { (1 ≤ period) × (length table.old ≡ period) }
-    ensures written { MatchBool result (IsWritten motion start period (lasting.duration motion + 1) table.old table.new) (IsDouble motion start period table.old table.new) }
+    ensures written { MatchBool result (IsWritten motion start period (lasting.duration motion + 1) table.old table.new)
+        (IsDouble motion start period table.old table.new) }
     ensures count { length table.new ≡ length table.old }
 {
     for u in 0..duration(motion) + 1 {

@@ -1,5 +1,21 @@
 // The lowest paths.
-ghost use Rattle.std.specs.Prelude.{◌≡◌, ◌≢◌, ℕ, ◌≤◌, ◌<◌, ◌+◌, ◌*◌, ◌++◌, length, get_or, IfOk, IfSome, MatchBool, MatchOption, Some};
+ghost use Rattle.std.specs.Prelude.{
+  ◌≡◌,
+  ◌≢◌,
+  ℕ,
+  ◌≤◌,
+  ◌<◌,
+  ◌+◌,
+  ◌*◌,
+  ◌++◌,
+  length,
+  get_or,
+  IfOk,
+  IfSome,
+  MatchBool,
+  MatchOption,
+  Some,
+};
 ghost use Rattle.hoist_base.specs.LineData.{move_count};
 ghost use Rattle.hoist_base.specs.Routes.{IsRoute};
 ghost use Rattle.hoist_base.specs.Valid.{IsLine};
@@ -15,11 +31,13 @@ use crate::slots::write_hoist;
 use hoist_base::{Line, Route};
 use std::alloc::{AllocError, Global};
 
-/// The lowest paths of the hoists through all that their moves fix, or the first two fixed points that contradict one another.
+/// The lowest paths of the hoists through all that their moves fix, or the first two fixed points that contradict one
+/// another.
 ///
-/// A move fixes its hoist at each of its ticks, its end too, and again each period. Two of these points contradict one another
-/// where no positions that keep to the track go through both. The answer is then the first point of the starts as given, by
-/// hoist, then by move, then by tick, that contradicts one, and the first that it contradicts, in its nearest copy.
+/// A move fixes its hoist at each of its ticks, its end too, and again each period. Two of these points contradict one
+/// another where no positions that keep to the track go through both. The answer is then the first point of the starts
+/// as given, by hoist, then by move, then by tick, that contradicts one, and the first that it contradicts, in its
+/// nearest copy.
 pub fn paths(
     alloc: Global,
     line: &Line,
@@ -33,7 +51,8 @@ pub fn paths(
     requires starts { (length starts.now ≡ move_count line.now) × ((i : ℕ) → get_or starts.now i 0 ≤ 1000000000) }
     requires hoists { length hoists.now ≡ move_count line.now }
     requires reach { HaveReach line.now (duties line.now route.now period starts.now hoists.now) }
-    ensures traced { IfOk result (λ answer. IsTraced line.now (duties line.now route.now period starts.now hoists.now) answer) }
+    ensures traced { IfOk result (λ answer. IsTraced line.now
+        (duties line.now route.now period starts.now hoists.now) answer) }
 {
     let asked = Duties {
         line,
@@ -58,8 +77,11 @@ pub fn paths(
 // The first two fixed points that contradict one another, where some do.
 fn clashing(asked: Duties) -> Traced
     requires moves { AreMoves asked.line.now asked.route.now asked.period asked.starts.now asked.hoists.now }
-    requires some { Agree asked.line.now (duties asked.line.now asked.route.now asked.period asked.starts.now asked.hoists.now) → ⊥ }
-    ensures { IsTraced asked.entry.line.now (duties asked.entry.line.now asked.entry.route.now asked.entry.period asked.entry.starts.now asked.entry.hoists.now) result }
+    requires some { Agree asked.line.now
+        (duties asked.line.now asked.route.now asked.period asked.starts.now asked.hoists.now) → ⊥ }
+    ensures { IsTraced asked.entry.line.now
+        (duties asked.entry.line.now asked.entry.route.now asked.entry.period asked.entry.starts.now
+        asked.entry.hoists.now) result }
 {
     match first_clash(asked) {
         Some((a, b)) => Traced::Clashing { a, b },
@@ -67,7 +89,8 @@ fn clashing(asked: Duties) -> Traced
     }
 }
 
-// Writes the lowest row of a hoist above those of the hoists below; false where two fixed points contradict one another.
+// Writes the lowest row of a hoist above those of the hoists below; false where two fixed points contradict one
+// another.
 fn write_row(
     asked: Duties,
     h: u32,
@@ -78,10 +101,13 @@ fn write_row(
     requires moves { AreMoves asked.line.now asked.route.now asked.period asked.starts.now asked.hoists.now }
     requires valid { IsLine asked.line.now }
     requires hoist { h < asked.line.now.hoists }
-    requires rows { AreLayers asked.line.now (duties asked.line.now asked.route.now asked.period asked.starts.now asked.hoists.now) h rows.now }
+    requires rows { AreLayers asked.line.now
+        (duties asked.line.now asked.route.now asked.period asked.starts.now asked.hoists.now) h rows.now }
     requires table { length table.old ≡ asked.period }
     requires row { length row.old ≡ asked.period }
-    ensures layers { let p = duties asked.entry.line.now asked.entry.route.now asked.entry.period asked.entry.starts.now asked.entry.hoists.now in MatchBool result (AreLayers asked.entry.line.now p (h + 1) (rows.now ++ row.new)) (Agree asked.entry.line.now p → ⊥) }
+    ensures layers { let p = duties asked.entry.line.now asked.entry.route.now asked.entry.period asked.entry.starts.now
+        asked.entry.hoists.now in MatchBool result (AreLayers asked.entry.line.now p (h + 1) (rows.now ++ row.new))
+        (Agree asked.entry.line.now p → ⊥) }
     ensures table { length table.new ≡ asked.entry.period }
     ensures row { length row.new ≡ asked.entry.period }
 {
@@ -108,7 +134,9 @@ fn row_below(rows: &[u32], period: u32, h: u32) -> Option<&[u32]>
 // Whether a row goes through every position of a table.
 fn goes_through(table: &[Option<u32>], row: &[u32]) -> bool
     requires { length table.now ≡ length row.now }
-    ensures { MatchBool result ((s : ℕ) → s < length row.now → IfSome (held table.now s) (λ at. get_or row.now s 0 ≡ at)) ((s : ℕ) × (at : ℕ) × (s < length row.now) × (held table.now s ≡ Some at) × (get_or row.now s 0 ≢ at)) }
+    ensures { MatchBool result ((s : ℕ) → s < length row.now
+        → IfSome (held table.now s) (λ at. get_or row.now s 0 ≡ at))
+        ((s : ℕ) × (at : ℕ) × (s < length row.now) × (held table.now s ≡ Some at) × (get_or row.now s 0 ≢ at)) }
 {
     for t in 0..row.len() {
         if let Some(at) = table[t] {

@@ -72,7 +72,8 @@ fn first_hoist_pair(
 fn is_unassigned(line: &Line, tanks: &[u32], assigned: Option<u32>, m: MoveId) -> bool
     requires tanks { AreRouted line.now tanks.now }
     requires there { IsMove line.now m.carrier m.step }
-    ensures { IsTrue result ↔ ((assigned ≡ None) × (length (hoists_reaching line.now (stays.motion_by line.now tanks.now m.carrier m.step)) ≢ 1)) }
+    ensures { IsTrue result ↔ ((assigned ≡ None)
+        × (length (hoists_reaching line.now (stays.motion_by line.now tanks.now m.carrier m.step)) ≢ 1)) }
 {
     assigned.is_none() && reaching_count(line, motion_by(line, tanks, m)) != 1
 }

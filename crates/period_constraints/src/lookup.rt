@@ -23,8 +23,8 @@ use std::marker::Model;
 
 /// The rides of a line's steps and the clash of each with each, reckoned once.
 ///
-/// It holds at most 256 rides; the clashes of others are reckoned where they are asked for. It has room for what a question
-/// is sought by, so that each question is found without taking memory.
+/// It holds at most 256 rides; the clashes of others are reckoned where they are asked for. It has room for what a
+/// question is sought by, so that each question is found without taking memory.
 #[derive(Drop)]
 pub struct Lookup {
     rides: Vec<Ride>,

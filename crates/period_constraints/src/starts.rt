@@ -7,7 +7,18 @@ ghost use Rattle.path_constraints.specs.Ticks.{AreTicks, tick_at};
 ghost use Rattle.period_constraints.specs.Stays.{AreRouted, AreNear};
 ghost use Rattle.period_constraints.specs.Starts as starts;
 ghost use Rattle.period_constraints.specs.Pairs.{IsFirstShift, IsFirstPair};
-ghost use Rattle.period_constraints.specs.Starts.{IsTable, IsNumbered, AreClashing, AreNumbered, AreMeeting, IsRide, IsStart, AreStarts, clash_rides, ride_in};
+ghost use Rattle.period_constraints.specs.Starts.{
+  IsTable,
+  IsNumbered,
+  AreClashing,
+  AreNumbered,
+  AreMeeting,
+  IsRide,
+  IsStart,
+  AreStarts,
+  clash_rides,
+  ride_in,
+};
 
 use crate::pairs::{Pair, first_shift};
 use crate::stays::{motion_by, since_first};

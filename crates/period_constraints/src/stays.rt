@@ -125,7 +125,8 @@ fn first_tank_pair_of(
     requires near { AreNear line.now (tick_at ticks.now) }
     requires period { IsPeriod period }
     requires there { first < visit_count line.now }
-    ensures first { IsFirstPair (λ i j q. (i ≡ first) × HoldOneTank line.now tanks.now (tick_at ticks.now) period i j q) result }
+    ensures first { IsFirstPair (λ i j q. (i ≡ first)
+        × HoldOneTank line.now tanks.now (tick_at ticks.now) period i j q) result }
     ensures small { IfSome result (λ x. unsigned_abs x.shift ≤ 1000000000) }
 {
     let count = line.visit_count();

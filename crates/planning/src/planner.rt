@@ -80,7 +80,8 @@ fn paths_of(
     requires valid { IsLine line.now }
     requires plannable { IsPlannable line.now solved.now }
     requires starts { AreStarts line.now.load solved.now.ticks starts.now }
-    ensures { IfOk result (λ rows. AreLowest line.now (duties line.now solved.now.tanks solved.now.period starts.now solved.now.hoists) rows.items) }
+    ensures { IfOk result (λ rows. AreLowest line.now
+        (duties line.now solved.now.tanks solved.now.period starts.now solved.now.hoists) rows.items) }
 {
     let hoists = solved.hoists.as_slice();
     let traced = paths(alloc, line, &solved.tanks, solved.period, starts, hoists)?;

@@ -33,8 +33,8 @@ struct Progress {
 }
 
 impl<'a> Search<'a> {
-    /// One try: the periods from `from` to `cap` - 1, over about `quota` nodes. The root of a tree, where none of the periods
-    /// is left; the least of them for which a timetable was found is the best then.
+    /// One try: the periods from `from` to `cap` - 1, over about `quota` nodes. The root of a tree, where none of the
+    /// periods is left; the least of them for which a timetable was found is the best then.
     fn attempt(
         &mut self,
         from: i64,
@@ -129,8 +129,8 @@ impl<'a> Search<'a> {
         Ok(())
     }
 
-    // One round: a hunt while there is no timetable, a half, a window, and a proof of all where it is time for one. The root
-    // of a proof of all.
+    // One round: a hunt while there is no timetable, a half, a window, and a proof of all where it is time for one. The
+    // root of a proof of all.
     fn round(&mut self, progress: &mut Progress) -> Result<Option<u32>, AllocError> {
         if self.best.is_none() {
             let root = self.attempt(1, self.top(), progress.quota / 2, true)?;
@@ -169,8 +169,8 @@ impl<'a> Search<'a> {
         self.nodes >= self.limit
     }
 
-    /// The root of a tree that refutes all periods below the best, where one is found within so many more nodes. It takes
-    /// turns with a hunt.
+    /// The root of a tree that refutes all periods below the best, where one is found within so many more nodes. It
+    /// takes turns with a hunt.
     pub(crate) fn solve(
         &mut self,
         turns: &mut Turns,
@@ -199,8 +199,8 @@ impl<'a> Search<'a> {
         Ok(None)
     }
 
-    /// The root of the smallest of a few trees that refute all periods below the best, the first of which is at hand. The
-    /// others take an eighth of the nodes that were expanded before, or some thousand.
+    /// The root of the smallest of a few trees that refute all periods below the best, the first of which is at hand.
+    /// The others take an eighth of the nodes that were expanded before, or some thousand.
     pub(crate) fn smallest(&mut self, root: u32) -> Result<u32, AllocError> {
         let mut root = root;
         let mut kept = Tree::new(self.alloc);
@@ -227,8 +227,8 @@ impl<'a> Search<'a> {
         mem::swap(&mut self.tree, tree);
     }
 
-    /// The greatest period that is found within so many more nodes, below which all are refuted, with its tree. `aim` is a
-    /// period that is worth a try first.
+    /// The greatest period that is found within so many more nodes, below which all are refuted, with its tree. `aim`
+    /// is a period that is worth a try first.
     pub(crate) fn best_bound(&mut self, more: u64, aim: i64) -> Result<Option<Proof>, AllocError> {
         self.limit = self.limit.saturating_add(more);
         let first = self.root_low()?;

@@ -47,7 +47,8 @@ enum Open {
     Done(Step),
 }
 
-// How early a child is looked at: closed ones first, then the smaller one, or in a hunt the one with the lower least period.
+// How early a child is looked at: closed ones first, then the smaller one, or in a hunt the one with the lower least
+// period.
 fn rank(kid: &Kid, hunts: bool) -> (i64, i64) {
     match &kid.state {
         None => (0, 0),

@@ -10,8 +10,8 @@ use walk_tables::at;
 // Where the hunt's chance begins.
 const SEED: u64 = 1;
 
-/// The hunt that takes turns with the search, how many nodes were expanded when it had its last turn, and how many 16ths of
-/// a node its work may still count for.
+/// The hunt that takes turns with the search, how many nodes were expanded when it had its last turn, and how many
+/// 16ths of a node its work may still count for.
 #[derive(Drop)]
 pub(crate) struct Turns {
     hunt: Hunt,

@@ -139,8 +139,8 @@ impl<'a> Search<'a> {
         }
     }
 
-    /// Adds a leaf for the constraints as they stand, beginning with a look at the period t. Its node, and the levels that
-    /// it rests on; none where some period isn't refuted.
+    /// Adds a leaf for the constraints as they stand, beginning with a look at the period t. Its node, and the levels
+    /// that it rests on; none where some period isn't refuted.
     pub(crate) fn leaf(
         &mut self,
         solved: bool,

@@ -6,8 +6,8 @@ use crate::state::State;
 use std::alloc::{AllocError, Global};
 use walk_tables::{LEVELS, Levels, at, put, small};
 
-/// A set of decisions that can't stand together: a part of the list of decisions, the node of the tree that shows it, how
-/// many of them hold on the path, and whether it stands in the list of those that may lack one.
+/// A set of decisions that can't stand together: a part of the list of decisions, the node of the tree that shows it,
+/// how many of them hold on the path, and whether it stands in the list of those that may lack one.
 #[derive(Clone, Copy)]
 struct Nogood {
     first: u32,

@@ -41,8 +41,8 @@ impl<'a> Search<'a> {
         value(at(table, place, 0))
     }
 
-    /// The whole k with first <= x + k * T and second <= y + (1 - k) * T that the longest walks at a period leave, x and y
-    /// being the differences of ticks of the pair's two constraints.
+    /// The whole k with first <= x + k * T and second <= y + (1 - k) * T that the longest walks at a period leave, x
+    /// and y being the differences of ticks of the pair's two constraints.
     #[inline]
     pub(crate) fn shifts(
         &self,
@@ -76,8 +76,8 @@ impl<'a> Search<'a> {
         Some(logarithm(room).wrapping_sub(logarithm(left)))
     }
 
-    /// How much a constraint cuts off, that leaves a range of periods by a glance: 0 where none; None where it holds at both
-    /// ends already.
+    /// How much a constraint cuts off, that leaves a range of periods by a glance: 0 where none; None where it holds at
+    /// both ends already.
     pub(crate) fn cut(&self, state: &State, arc: Arc, range: Range) -> Option<i64> {
         let low = self.cut_at(&state.at_low, state.low, arc);
         let high = self.cut_at(&state.at_high, state.high, arc);

@@ -63,8 +63,8 @@ fn first_stuck(problem: &Problem) -> Option<usize> {
     None
 }
 
-// A bound that is worth a try: that of one carrier for each of the carriers of a period. A line whose stages have several
-// tanks has none.
+// A bound that is worth a try: that of one carrier for each of the carriers of a period. A line whose stages have
+// several tanks has none.
 fn natural_bound(alloc: Global, line: &Line) -> Result<i64, AllocError> {
     if !line.single() {
         return Ok(1);
@@ -80,11 +80,11 @@ fn cost_of(problem: &Problem) -> u64 {
     (problem.nodes as u64).saturating_mul(problem.nodes as u64) / 1024 + 1
 }
 
-/// Proposes an answer to a line: the bytes of its text. `nodes` says how many nodes of trees all tries together may expand;
-/// with 32 moves or more a node counts for several.
+/// Proposes an answer to a line: the bytes of its text. `nodes` says how many nodes of trees all tries together may
+/// expand; with 32 moves or more a node counts for several.
 ///
-/// Nothing is promised of the bytes. They depend on the line and on `nodes` alone. It takes time in proportion to `nodes`,
-/// and memory for the tree of one try.
+/// Nothing is promised of the bytes. They depend on the line and on `nodes` alone. It takes time in proportion to
+/// `nodes`, and memory for the tree of one try.
 pub fn propose(alloc: Global, line: &Line, nodes: u32) -> Result<Vec<u8>, AllocError>
     requires { nodes ≤ 1000000000 }
 {

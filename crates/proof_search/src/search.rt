@@ -263,7 +263,8 @@ impl<'a> Search<'a> {
         })
     }
 
-    /// Sets what follows from the tanks: motions, and hoists where one alone reaches. `got` takes the moves that got one.
+    /// Sets what follows from the tanks: motions, and hoists where one alone reaches. `got` takes the moves that got
+    /// one.
     pub(crate) fn derive(&mut self, got: &mut Vec<u32>) -> Result<(), AllocError> {
         for m in 0..self.problem.nodes {
             let visit = self.problem.visit_of(m);

@@ -15,7 +15,8 @@ pub(crate) struct Deal {
     pub(crate) m: usize,
 }
 
-/// The open orders of a move on a hoist in 16ths of bits, the mean of both ends; and whether the hoist is out of question.
+/// The open orders of a move on a hoist in 16ths of bits, the mean of both ends; and whether the hoist is out of
+/// question.
 #[derive(Clone, Copy)]
 struct Bits {
     sum: i64,

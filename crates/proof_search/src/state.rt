@@ -37,8 +37,8 @@ impl Range {
     }
 }
 
-/// What is known of a pair while both of its things are settled: the weights of its two constraints at q = 0, and by how
-/// much the hoist of b is above that of a.
+/// What is known of a pair while both of its things are settled: the weights of its two constraints at q = 0, and by
+/// how much the hoist of b is above that of a.
 #[derive(Clone, Copy)]
 pub(crate) struct Weights {
     pub(crate) first: i64,
@@ -53,8 +53,8 @@ pub(crate) struct Change {
     pub(crate) word: u32,
 }
 
-/// A child of a question: the decision, the constraint of an order, what a tank changes and the move that it leaves to no
-/// hoist, its state where it is open, and a measure of its size, 0 to 1024.
+/// A child of a question: the decision, the constraint of an order, what a tank changes and the move that it leaves to
+/// no hoist, its state where it is open, and a measure of its size, 0 to 1024.
 #[derive(Drop)]
 pub(crate) struct Kid {
     pub(crate) literal: Literal,

@@ -23,7 +23,8 @@ fn accepted<R: Threads + Sync>(
     line: &Line,
     bytes: &[u8],
 ) -> Result<Option<Verdict>, AllocError>
-    ensures kept { IfOk result (λ v. IfSome v (λ verdict. (a : Answer) × IsKept line.now bytes.now a × NoneBelow line.now a.bound × (verdict ≡ a.verdict))) }
+    ensures kept { IfOk result (λ v. IfSome v
+        (λ verdict. (a : Answer) × IsKept line.now bytes.now a × NoneBelow line.now a.bound × (verdict ≡ a.verdict))) }
     ensures only { (a : Answer) → IsKept line.now bytes.now a → IfOk result (λ v. v ≡ Some a.verdict) }
 {
     if bytes.len() as u64 > ANSWER_LIMIT {
@@ -42,7 +43,8 @@ fn accepted<R: Threads + Sync>(
 fn unsearched(alloc: Global, line: &Line) -> Result<Reply, AllocError>
     ensures proved { IfOk result (λ reply. IsProved line.now reply.status reply.text.items) }
     ensures open { IfOk result (λ reply. reply.status ≡ Status.Unfinished) }
-    ensures solution { IfOk result (λ reply. (a : Answer) × IsSolution line.now 0 a × (reply.text.items ≡ answer_text line.now a)) }
+    ensures solution { IfOk result (λ reply. (a : Answer) × IsSolution line.now 0 a
+        × (reply.text.items ≡ answer_text line.now a)) }
 {
     let answer = solve_alone(alloc, line, 0)?;
     let text = write_answer(alloc, line, &answer)?;
@@ -62,8 +64,10 @@ pub fn settle<R: Threads + Sync>(
     bytes: Vec<u8>,
 ) -> Result<Reply, AllocError>
     ensures proved { IfOk result (λ reply. IsProved line.now reply.status reply.text.items) }
-    ensures kept { (a : Answer) → IsKept line.now bytes.items a → IfOk result (λ reply. (reply.text.items ≡ bytes.items) × (reply.status ≡ status_of a.verdict)) }
-    ensures other { ((a : Answer) → IsKept line.now bytes.items a → ⊥) → IfOk result (λ reply. (reply.status ≡ Status.Unfinished)
+    ensures kept { (a : Answer) → IsKept line.now bytes.items a
+        → IfOk result (λ reply. (reply.text.items ≡ bytes.items) × (reply.status ≡ status_of a.verdict)) }
+    ensures other { ((a : Answer) → IsKept line.now bytes.items a → ⊥)
+        → IfOk result (λ reply. (reply.status ≡ Status.Unfinished)
         × ((a : Answer) × IsSolution line.now 0 a × (reply.text.items ≡ answer_text line.now a))) }
 {
     match accepted(rt, alloc, line, bytes.as_slice())? {

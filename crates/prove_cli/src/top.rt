@@ -69,12 +69,13 @@ fn reply_to<R: Threads + Sync, F: Shelf>(
 /// Runs the program over these words: reads the line file that they name from the shelf, has an answer to it proposed,
 /// checks it, and writes it, or what is wrong, to the sink. The whole text is built before the first byte is written.
 ///
-/// - `Done`: the printed text is that of an answer to the line that keeps every rule of the checker. Its timetable is legal
-///   tick by tick; every carrier of every run of it keeps its windows; no legal timetable of the line has a smaller
-///   period; and the printed tree of constraint cycles proves this.
-/// - `Negative`: the same text, of an answer without a timetable: no legal timetable has a period up to the line's greatest.
-/// - `Unfinished`: the same text, of an open answer: no legal timetable has a period below the printed bound, and the printed
-///   timetable, where there is one, is legal.
+/// - `Done`: the printed text is that of an answer to the line that keeps every rule of the checker. Its timetable is
+///   legal tick by tick; every carrier of every run of it keeps its windows; no legal timetable of the line has a
+///   smaller period; and the printed tree of constraint cycles proves this.
+/// - `Negative`: the same text, of an answer without a timetable: no legal timetable has a period up to the line's
+///   greatest.
+/// - `Unfinished`: the same text, of an open answer: no legal timetable has a period below the printed bound, and the
+///   printed timetable, where there is one, is legal.
 ///
 /// Nothing of this rests on the proposal: what the checker doesn't accept isn't printed, but an open answer without a
 /// search. Want of memory may be answered instead of anything else; `Broken` is never answered.
@@ -96,7 +97,8 @@ pub fn hoist_prove<R: Threads + Sync, F: Shelf, K: Sink>(
         (words_of words.now) (K.written sink.old) (K.written sink.new) }
     ensures reply { (result ≡ Status.Write) ⊎ ((result ≡ Status.Memory)
         ⊎ ((text : List ℕ)
-        × IsReply (reading (F.files shelf.old) (F.faults shelf.old) (F.faults shelf.new)) (words_of words.now) result text
+        × IsReply (reading (F.files shelf.old) (F.faults shelf.old) (F.faults shelf.new))
+        (words_of words.now) result text
         × (K.written sink.new ≡ appended (K.written sink.old) text))) }
     ensures words { result ≡ Status.Words → AskNoProof (words_of words.now) }
     ensures nothing { AskNoProof (words_of words.now) → (result ≡ Status.Words)
@@ -108,7 +110,8 @@ pub fn hoist_prove<R: Threads + Sync, F: Shelf, K: Sink>(
         ⊎ Rose (K.wants sink.old) (K.wants sink.new) }
     ensures prefix { (result ≡ Status.Write) ⊎ (result ≡ Status.Memory)
         → (K.written sink.new ≡ K.written sink.old) ⊎ ((status : Status) × (text : List ℕ) × (n : ℕ)
-        × IsReply (reading (F.files shelf.old) (F.faults shelf.old) (F.faults shelf.new)) (words_of words.now) status text
+        × IsReply (reading (F.files shelf.old) (F.faults shelf.old) (F.faults shelf.new))
+        (words_of words.now) status text
         × (n ≤ length text) × (K.written sink.new ≡ appended (K.written sink.old) (take n text))) }
 {
     let Some(reply) = settled(reply_to(rt, alloc, words, shelf)) else {

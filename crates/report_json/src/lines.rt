@@ -48,7 +48,8 @@ fn tanks(alloc: Global, line: &Line) -> Result<Value, AllocError>
 fn tanks_of(alloc: Global, line: &Line, k: u32) -> Result<Value, AllocError>
     requires { IsStageOf line.now k }
     ensures { IfOk result (λ v. view v
-        ≡ document.listed (λ j. document.count (get_or (lines.stage line.now k).tanks j 0)) (length (lines.stage line.now k).tanks)) }
+        ≡ document.listed (λ j. document.count (get_or (lines.stage line.now k).tanks j 0))
+        (length (lines.stage line.now k).tanks)) }
 {
     let numbers = line.stages()[k as usize].tanks.as_slice();
     let mut values = Vec::new(alloc);

@@ -12,8 +12,8 @@ use serde_json::{Value, json};
 use std::alloc::{AllocError, Global};
 use timetable::{Timetable, arrival, departure, least_dwell};
 
-/// A stay: the ticks at which the carrier begins and ends its rest in its tank, the ticks between, and the window of the
-/// stage.
+/// A stay: the ticks at which the carrier begins and ends its rest in its tank, the ticks between, and the window of
+/// the stage.
 #[tactic(auto, unfolding(crate::specs::Document::stay_value))]
 fn stay(alloc: Global, line: &Line, t: &Timetable, v: VisitId) -> Result<Value, AllocError>
     requires fits { FitsLine line.now t.now }
@@ -103,7 +103,8 @@ fn carry(alloc: Global, line: &Line, t: &Timetable, m: MoveId) -> Result<Value, 
 pub(crate) fn moves(alloc: Global, line: &Line, t: &Timetable) -> Result<Value, AllocError>
     requires { FitsLine line.now t.now }
     ensures { IfOk result (λ v. view v
-        ≡ document.listed (λ i. document.move_value line.now (timetable_of t.now) (move_at line.now i).carrier (move_at line.now i).step)
+        ≡ document.listed (λ i. document.move_value line.now (timetable_of t.now) (move_at line.now i).carrier
+        (move_at line.now i).step)
         (move_count line.now)) }
 {
     let mut values = Vec::new(alloc);

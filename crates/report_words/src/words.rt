@@ -61,8 +61,8 @@ fn said_by_three<'a>(first: &'a str, middle: &'a str, last: &'a str) -> Option<A
     })
 }
 
-/// What the words behind the program's name ask for, if the names of the files are such; None where no words say two files
-/// with names, and the option at most once.
+/// What the words behind the program's name ask for, if the names of the files are such; None where no words say two
+/// files with names, and the option at most once.
 fn said_by<'a>(behind: Placed<'a>) -> Option<Asked<'a>>
     ensures { IsSaidBy (words_in behind.entry) result }
 {

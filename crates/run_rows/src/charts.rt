@@ -1,5 +1,5 @@
-// Charts and dwell tables of small lines: that of two stations is given, the others come from a script that reads the rows
-// of the chart off the numbers of the timetable, each move at every period.
+// Charts and dwell tables of small lines: that of two stations is given, the others come from a script that reads the
+// rows of the chart off the numbers of the timetable, each move at every period.
 ghost use Rattle.line_model.specs.Legal.{IsLegal};
 ghost use Rattle.timetable.specs.TimetableData.{timetable_of, FitsLine};
 

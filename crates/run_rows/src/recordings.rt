@@ -1,5 +1,5 @@
-// Runs of worked lines that are written as logs and then followed. The lines of the logs are written by hand: a hoist follows
-// its path, but stays while it carries a carrier of the run.
+// Runs of worked lines that are written as logs and then followed. The lines of the logs are written by hand: a hoist
+// follows its path, but stays while it carries a carrier of the run.
 ghost use Rattle.std.specs.Prelude.{◌≤◌};
 ghost use Rattle.hoist_base.specs.Valid.{IsLine};
 ghost use Rattle.line_model.specs.Legal.{IsLegal};

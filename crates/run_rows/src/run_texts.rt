@@ -1,5 +1,5 @@
-// Runs of small lines: those of two stations are given, the others come from a script that lists the ticks of each carrier
-// and sorts them.
+// Runs of small lines: those of two stations are given, the others come from a script that lists the ticks of each
+// carrier and sorts them.
 ghost use Rattle.std.specs.Prelude.{◌≤◌};
 
 use crate::written::{FAR_TANK, ONE_STATION, TURNED, TWICE, TWO_STATIONS, Written, legal_of};

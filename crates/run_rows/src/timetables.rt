@@ -248,8 +248,8 @@ fn faulty_numbers(alloc: Global, line: &Line, w: Written) -> bool {
     shows(alloc, line, late, fault)
 }
 
-// A long stay at the load station meets a copy of itself, then the other carrier; the carrier before is still at the unload
-// station.
+// A long stay at the load station meets a copy of itself, then the other carrier; the carrier before is still at the
+// unload station.
 fn two_held(alloc: Global, line: &Line, w: Written) -> bool {
     let copies = w.put(&[10, 21]).start(&[126, 136, 21, 31]).off(&[141, 36]);
     let others = w.put(&[10, 21]).start(&[42, 52, 21, 31]).off(&[57, 36]);

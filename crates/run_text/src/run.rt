@@ -15,8 +15,8 @@ use timetable::Timetable;
 
 /// The text of the run of the first 1 to 1,000 carriers of a legal timetable, as the tick machine plays it.
 ///
-/// It has the number of the carriers, the ticks of the first put and of the last off, each event of the run in the order
-/// of its log, and at the end that the line is empty.
+/// It has the number of the carriers, the ticks of the first put and of the last off, each event of the run in the
+/// order of its log, and at the end that the line is empty.
 pub fn run_text(
     alloc: Global,
     line: &Line,
@@ -47,7 +47,8 @@ fn push_run(
     requires fits { FitsLine line.now t.now }
     requires legal { IsLegal line.now (timetable_of t.now) }
     requires carriers { (1 ≤ carriers) × (carriers ≤ 1000) }
-    ensures { OnOk result (text.new.items ≡ text.old.items ++ flat_map texts.event_line (run_log line.now (timetable_of t.now) carriers)) }
+    ensures { OnOk result (text.new.items ≡ text.old.items
+        ++ flat_map texts.event_line (run_log line.now (timetable_of t.now) carriers)) }
 {
     let runner = drive(line, t, carriers);
     let mut playing = Playing::begin(alloc, line, &runner)?;

@@ -170,7 +170,8 @@ impl Problem {
         at(&self.rides, number, NO_RIDE)
     }
 
-    /// How long a move lasts, and which hoists reach its ends, over the tanks that are open: those that are named, or all.
+    /// How long a move lasts, and which hoists reach its ends, over the tanks that are open: those that are named, or
+    /// all.
     fn over(&self, m: usize, i: Option<u8>, j: Option<u8>) -> (Option<Lasts>, u8, u8) {
         let step = self.step_of(m);
         let here = self.stop(step).count.min(4) as u8;

@@ -10,7 +10,8 @@ use line_model::Motion;
 use std::alloc::{AllocError, Global};
 use walk_tables::at;
 
-/// The motion of a step between two tanks: its places, how long it lasts, the way, and a mask of the hoists that reach it.
+/// The motion of a step between two tanks: its places, how long it lasts, the way, and a mask of the hoists that reach
+/// it.
 #[derive(Clone, Copy)]
 pub struct Ride {
     pub motion: Motion,
@@ -104,8 +105,8 @@ impl Lasts {
     }
 }
 
-/// Two motions' starts must not be nearer than `after` one way and `before` the other. Where `after` is `i32::MIN` nothing
-/// is forbidden.
+/// Two motions' starts must not be nearer than `after` one way and `before` the other. Where `after` is `i32::MIN`
+/// nothing is forbidden.
 #[derive(Clone, Copy)]
 pub struct Span {
     pub after: i32,

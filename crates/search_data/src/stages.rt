@@ -45,7 +45,8 @@ impl Stop {
     }
 }
 
-/// When a visit holds its tank: from a part beyond the tick of the node `begin` to a part beyond that of the node `end`.
+/// When a visit holds its tank: from a part beyond the tick of the node `begin` to a part beyond that of the node
+/// `end`.
 #[derive(Clone, Copy)]
 pub struct Hold {
     pub begin: u32,

@@ -145,7 +145,8 @@ fn idle_hoist(rt: HostRuntime) -> Result<(), Fail> {
     Ok(())
 }
 
-// The nearest copies of the upper hoist's point stand two ticks before and after the lower hoist's: the earlier one is found.
+// The nearest copies of the upper hoist's point stand two ticks before and after the lower hoist's: the earlier one is
+// found.
 #[test]
 fn copies_equally_near(rt: HostRuntime) -> Result<(), Fail> {
     let numbers = Numbers {

@@ -1,5 +1,5 @@
-// Sweeps of small lines: the texts of two stations are given, those of a line that no hoist serves are worked by hand, and
-// the periods of baths come from a script that tries all timetables of one hoist.
+// Sweeps of small lines: the texts of two stations are given, those of a line that no hoist serves are worked by hand,
+// and the periods of baths come from a script that tries all timetables of one hoist.
 ghost use Rattle.std.specs.Prelude.{◌≤◌};
 
 use answer_text::Verdict;

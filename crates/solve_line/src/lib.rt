@@ -82,8 +82,8 @@ fn answer_of(alloc: Global, line: &Line, outcome: Outcome) -> Result<Answer, All
 
 /// The answer to a line under a budget of splits; the number of workers, 1 to 64, and the gate have no part in it.
 ///
-/// Its tree proves its bound and has no more splits than the budget, its timetable, where there is one, is legal, and its
-/// verdict says what they come to. So the checker accepts it: it has no reason to be rejected.
+/// Its tree proves its bound and has no more splits than the budget, its timetable, where there is one, is legal, and
+/// its verdict says what they come to. So the checker accepts it: it has no reason to be rejected.
 pub fn solve<R: Threads + Sync, G: Gate>(
     rt: &R,
     alloc: Global,

@@ -11,7 +11,8 @@ use timetable::Timetable;
 
 /// The driver of the run of the first 1 to 1,000 carriers of a legal timetable, from its first put to its last off.
 ///
-/// By its orders the machine makes no breach, from an empty line to an empty line, and logs the run. It takes no memory.
+/// By its orders the machine makes no breach, from an empty line to an empty line, and logs the run. It takes no
+/// memory.
 pub fn drive<'a>(line: &'a Line, t: &'a Timetable, carriers: u64) -> Runner<'a>
     requires fits { FitsLine line.now t.now }
     requires legal { IsLegal line.now (timetable_of t.now) }

@@ -8,9 +8,10 @@ pub fn starts_up_and_runs_down()
     ensures { StartsUpAndRunsDown }
 {}
 
-/// The log of a run is whole. It leaves nothing out: it has each put and each off of the run's carriers, and the begin and
-/// the set of each of their moves, at their ticks. It holds nothing else, and each event once. Its events come in the
-/// order of their ticks; inside a tick sets come first, then the off, the put and begins; sets and begins go by hoist.
+/// The log of a run is whole. It leaves nothing out: it has each put and each off of the run's carriers, and the begin
+/// and the set of each of their moves, at their ticks. It holds nothing else, and each event once. Its events come in
+/// the order of their ticks; inside a tick sets come first, then the off, the put and begins; sets and begins go by
+/// hoist.
 pub fn log_is_whole()
     ensures { LogIsWhole }
 {}

@@ -38,12 +38,23 @@ impl<'a> Model for Runner<'a> {
 
     ghost Value = { RunnerData };
 
-    ghost view = { λ runner. record { line = runner.line.now; timetable = runner.timetable.now; carriers = runner.carriers } };
+    ghost view = { λ runner.
+        record { line = runner.line.now; timetable = runner.timetable.now; carriers = runner.carriers } };
 
     ghost invariant = { λ runner.
         IsRunner (record { line = runner.line.now; timetable = runner.timetable.now; carriers = runner.carriers })
-        × (runner.first ≡ first_tick (record { line = runner.line.now; timetable = runner.timetable.now; carriers = runner.carriers }))
-        × (runner.last ≡ last_tick (record { line = runner.line.now; timetable = runner.timetable.now; carriers = runner.carriers })) };
+        × (runner.first ≡ first_tick (record {
+          line = runner.line.now;
+          timetable = runner.timetable.now;
+          carriers =
+              runner.carriers;
+        }))
+        × (runner.last ≡ last_tick (record {
+          line = runner.line.now;
+          timetable = runner.timetable.now;
+          carriers =
+              runner.carriers;
+        })) };
 }
 
 impl<'a> Runner<'a> {
@@ -91,7 +102,9 @@ impl<'a> Runner<'a> {
     // Whether a carrier of the run is carried by its move that copies m, from the tick before into `tick`.
     fn is_under_way(&self, m: MoveId, tick: u64) -> bool
         requires { IsMove self.now.line m.carrier m.step }
-        ensures { result ≡ runners.is_under_way self.now m.carrier ((timetable_of self.now.timetable).start m.carrier m.step) (motions.duration (model.motion self.now.line (timetable_of self.now.timetable) m.carrier m.step)) tick }
+        ensures { result ≡ runners.is_under_way self.now m.carrier
+            ((timetable_of self.now.timetable).start m.carrier m.step)
+            (motions.duration (model.motion self.now.line (timetable_of self.now.timetable) m.carrier m.step)) tick }
     {
         let start = self.timetable.start(m);
         if tick <= start {
@@ -132,7 +145,8 @@ impl<'a> Runner<'a> {
     #[tactic(auto, using(crate::proofs::Picks::pick_first, crate::proofs::Picks::pick_more))]
     fn begin_with(&self, c: u32, h: u32, tick: u64) -> Option<u32>
         requires { c < self.now.line.degree }
-        ensures { result ≡ pick (last_stage self.now.line) (runners.begins_at self.now tick h c) (λ k. (timetable_of self.now.timetable).tank c (k + 1)) }
+        ensures { result ≡ pick (last_stage self.now.line) (runners.begins_at self.now tick h c)
+            (λ k. (timetable_of self.now.timetable).tank c (k + 1)) }
     {
         for step in 0..self.timetable.moves() {
             let m = MoveId { carrier: c, step };

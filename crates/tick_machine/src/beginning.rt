@@ -126,7 +126,8 @@ fn begin_to(line: &Line, h: u32, to: u32, frame: &mut Frame) -> Result<(), Breac
     requires fits { Fits (layout_of line.now) 2000 (scene_of frame.old) }
     requires hoist { h < line.now.hoists }
     ensures breach { error_of result ≡ points.no_begin_by (layout_of line.now) h (Some to) (scene_of frame.old) }
-    ensures scene { OnOk result (scene_of frame.new ≡ points.begin_by (layout_of line.now) h (Some to) (scene_of frame.old)) }
+    ensures scene { OnOk result (scene_of frame.new
+        ≡ points.begin_by (layout_of line.now) h (Some to) (scene_of frame.old)) }
     ensures fits { Fits (layout_of line.now) 2000 (scene_of frame.new) }
     ensures sized { IsSized line.now frame.new }
 {
@@ -145,8 +146,10 @@ fn begin_move(line: &Line, order: &Order, h: u32, frame: &mut Frame) -> Result<(
     requires order { IsSizedOrder line.now.hoists order.now }
     requires fits { Fits (layout_of line.now) 2000 (scene_of frame.old) }
     requires hoist { h < line.now.hoists }
-    ensures breach { error_of result ≡ points.no_begin (layout_of line.now) (command_of order.now) h (scene_of frame.old) }
-    ensures scene { OnOk result (scene_of frame.new ≡ points.begin_move (layout_of line.now) (command_of order.now) h (scene_of frame.old)) }
+    ensures breach { error_of result ≡ points.no_begin (layout_of line.now) (command_of order.now) h
+        (scene_of frame.old) }
+    ensures scene { OnOk result (scene_of frame.new
+        ≡ points.begin_move (layout_of line.now) (command_of order.now) h (scene_of frame.old)) }
     ensures fits { Fits (layout_of line.now) 2000 (scene_of frame.new) }
     ensures sized { IsSized line.now frame.new }
 {
@@ -161,8 +164,12 @@ pub(crate) fn begin_all(line: &Line, order: &Order, frame: &mut Frame) -> Result
     requires sized { IsSized line.now frame.old }
     requires order { IsSizedOrder line.now.hoists order.now }
     requires fits { Fits (layout_of line.now) 2000 (scene_of frame.old) }
-    ensures breach { error_of result ≡ steps.first line.now.hoists (λ h. points.no_begin (layout_of line.now) (command_of order.now) h (steps.each (points.begin_move (layout_of line.now) (command_of order.now)) h (scene_of frame.old))) }
-    ensures scene { OnOk result (scene_of frame.new ≡ steps.each (points.begin_move (layout_of line.now) (command_of order.now)) line.now.hoists (scene_of frame.old)) }
+    ensures breach { error_of result ≡ steps.first line.now.hoists
+        (λ h. points.no_begin (layout_of line.now) (command_of order.now) h
+        (steps.each (points.begin_move (layout_of line.now) (command_of order.now)) h (scene_of frame.old))) }
+    ensures scene { OnOk result (scene_of frame.new
+        ≡ steps.each (points.begin_move (layout_of line.now) (command_of order.now)) line.now.hoists
+        (scene_of frame.old)) }
     ensures fits { Fits (layout_of line.now) 2000 (scene_of frame.new) }
     ensures sized { IsSized line.now frame.new }
 {

@@ -48,7 +48,9 @@ fn set_of(line: &Line, old: &Frame, h: u32) -> Option<What>
 fn note_sets(line: &Line, tick: u64, old: &Frame, log: &mut Vec<Event>) -> Result<(), AllocError>
     requires sized { IsSized line.now old.now }
     requires fits { Fits (layout_of line.now) 1999 (scene_of old.now) }
-    ensures { OnOk result (log.new.items ≡ log.old.items ++ map (events.at_tick tick) (events.collect line.now.hoists (λ h. events.set_of (layout_of line.now) (option_map points.grown ((scene_of old.now).carry h))))) }
+    ensures { OnOk result (log.new.items ≡ log.old.items
+        ++ map (events.at_tick tick) (events.collect line.now.hoists
+        (λ h. events.set_of (layout_of line.now) (option_map points.grown ((scene_of old.now).carry h))))) }
 {
     let hoists = line.hoists();
     for h in 0..hoists {
@@ -85,7 +87,9 @@ fn note_begins(
 ) -> Result<(), AllocError>
     requires sized { IsSized line.now new.now }
     requires order { IsSizedOrder line.now.hoists order.now }
-    ensures { OnOk result (log.new.items ≡ log.old.items ++ map (events.at_tick tick) (events.collect line.now.hoists (λ h. events.begin_of h ((command_of order.now).begin h) ((scene_of new.now).carry h)))) }
+    ensures { OnOk result (log.new.items ≡ log.old.items
+        ++ map (events.at_tick tick) (events.collect line.now.hoists
+        (λ h. events.begin_of h ((command_of order.now).begin h) ((scene_of new.now).carry h)))) }
 {
     let hoists = line.hoists();
     for h in 0..hoists {
@@ -108,8 +112,11 @@ pub(crate) fn note_step(
     requires order { IsSizedOrder line.now.hoists order.now }
     requires new { IsSized line.now new.now }
     requires fits { Fits (layout_of line.now) 1999 (scene_of old.now) }
-    requires taken { events.off_of order.now.off ((steps.after_free (layout_of line.now) (command_of order.now) (scene_of old.now)).hold (layout_of line.now).unload_tank) ≡ option_map whats.Off taken }
-    ensures { OnOk result (log.new.items ≡ log.old.items ++ events.events_of (layout_of line.now) tick (command_of order.now) (scene_of old.now) (scene_of new.now)) }
+    requires taken { events.off_of order.now.off
+        ((steps.after_free (layout_of line.now) (command_of order.now) (scene_of old.now)).hold
+        (layout_of line.now).unload_tank) ≡ option_map whats.Off taken }
+    ensures { OnOk result (log.new.items ≡ log.old.items
+        ++ events.events_of (layout_of line.now) tick (command_of order.now) (scene_of old.now) (scene_of new.now)) }
 {
     note_sets(line, tick, old, log)?;
     let off = match taken {

@@ -43,8 +43,11 @@ fn lower_in(line: &Line, h: u32, frame: &mut Frame) -> Result<(), Breach>
 pub(crate) fn lower_in_all(line: &Line, frame: &mut Frame) -> Result<(), Breach>
     requires sized { IsSized line.now frame.old }
     requires fits { Fits (layout_of line.now) 2000 (scene_of frame.old) }
-    ensures breach { error_of result ≡ steps.first line.now.hoists (λ h. points.no_lowering (layout_of line.now) h (steps.each (points.lower_in (layout_of line.now)) h (scene_of frame.old))) }
-    ensures scene { OnOk result (scene_of frame.new ≡ steps.each (points.lower_in (layout_of line.now)) line.now.hoists (scene_of frame.old)) }
+    ensures breach { error_of result ≡ steps.first line.now.hoists
+        (λ h. points.no_lowering (layout_of line.now) h
+        (steps.each (points.lower_in (layout_of line.now)) h (scene_of frame.old))) }
+    ensures scene { OnOk result (scene_of frame.new
+        ≡ steps.each (points.lower_in (layout_of line.now)) line.now.hoists (scene_of frame.old)) }
     ensures fits { Fits (layout_of line.now) 2000 (scene_of frame.new) }
     ensures sized { IsSized line.now frame.new }
 {

@@ -37,7 +37,8 @@ pub(crate) fn first_busy(line: &Line, order: &Order, frame: &Frame) -> Option<Br
     requires rules { KeepsRules (layout_of line.now) (scene_of frame.now) }
     ensures fits { Fits (layout_of line.now) 1999 (scene_of frame.now) }
     ensures valid { IsLine line.now }
-    ensures breach { result ≡ steps.first line.now.hoists (points.busy (layout_of line.now) (command_of order.now) (scene_of frame.now)) }
+    ensures breach { result ≡ steps.first line.now.hoists
+        (points.busy (layout_of line.now) (command_of order.now) (scene_of frame.now)) }
 {
     let hoists = line.hoists();
     for h in 0..hoists {
@@ -72,7 +73,8 @@ fn edge(line: &Line, h: u32, go: Go, at: u32) -> Option<Breach>
 pub(crate) fn first_edge(line: &Line, order: &Order, frame: &Frame) -> Option<Breach>
     requires sized { IsSized line.now frame.now }
     requires order { IsSizedOrder line.now.hoists order.now }
-    ensures { result ≡ steps.first line.now.hoists (points.edge (layout_of line.now) (command_of order.now) (scene_of frame.now)) }
+    ensures { result ≡ steps.first line.now.hoists
+        (points.edge (layout_of line.now) (command_of order.now) (scene_of frame.now)) }
 {
     let hoists = line.hoists();
     for h in 0..hoists {
@@ -120,8 +122,11 @@ pub(crate) fn move_hoists(line: &Line, order: &Order, old: &Frame, new: &mut Fra
     requires old { IsSized line.now old.now }
     requires new { IsSized line.now new.old }
     requires fits { Fits (layout_of line.now) 1999 (scene_of old.now) }
-    ensures at { (h : ℕ) → h < line.now.hoists → get_or new.new.at.items h 0 ≡ points.moved_to (layout_of line.now) (get_or old.now.carry.items h None) (get_or order.now.go.items h Stay) (get_or old.now.at.items h 0) }
-    ensures carry { (h : ℕ) → h < line.now.hoists → get_or new.new.carry.items h None ≡ option_map points.grown (get_or old.now.carry.items h None) }
+    ensures at { (h : ℕ) → h < line.now.hoists
+        → get_or new.new.at.items h 0 ≡ points.moved_to (layout_of line.now) (get_or old.now.carry.items h None)
+        (get_or order.now.go.items h Stay) (get_or old.now.at.items h 0) }
+    ensures carry { (h : ℕ) → h < line.now.hoists
+        → get_or new.new.carry.items h None ≡ option_map points.grown (get_or old.now.carry.items h None) }
     ensures hold { new.new.hold.items ≡ new.old.hold.items }
     ensures sized { IsSized line.now new.new }
     ensures valid { IsLine line.now }
@@ -152,7 +157,8 @@ pub(crate) fn age_holds(line: &Line, old: &Frame, new: &mut Frame)
     requires old { IsSized line.now old.now }
     requires new { IsSized line.now new.old }
     requires below { IsBelow (2 ^ 62) (scene_of old.now) }
-    ensures hold { (i : ℕ) → i < length line.now.tanks → get_or new.new.hold.items i None ≡ option_map points.aged_hold (get_or old.now.hold.items i None) }
+    ensures hold { (i : ℕ) → i < length line.now.tanks
+        → get_or new.new.hold.items i None ≡ option_map points.aged_hold (get_or old.now.hold.items i None) }
     ensures at { new.new.at.items ≡ new.old.at.items }
     ensures carry { new.new.carry.items ≡ new.old.carry.items }
     ensures sized { IsSized line.now new.new }
@@ -173,7 +179,8 @@ pub(crate) fn pass_tick(line: &Line, order: &Order, old: &Frame, new: &mut Frame
     requires new { IsSized line.now new.old }
     requires fits { Fits (layout_of line.now) 1999 (scene_of old.now) }
     requires below { IsBelow (2 ^ 62) (scene_of old.now) }
-    requires edges { steps.first line.now.hoists (points.edge (layout_of line.now) (command_of order.now) (scene_of old.now)) ≡ None }
+    requires edges { steps.first line.now.hoists
+        (points.edge (layout_of line.now) (command_of order.now) (scene_of old.now)) ≡ None }
     ensures scene { scene_of new.new ≡ steps.after_tick (layout_of line.now) (command_of order.now) (scene_of old.now) }
     ensures fits { Fits (layout_of line.now) 2000 (scene_of new.new) }
     ensures sized { IsSized line.now new.new }

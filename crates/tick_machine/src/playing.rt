@@ -53,7 +53,8 @@ impl<'a> Playing<'a> {
         requires hoists { D.hoists driver.now ≡ line.now.hoists }
         ensures line { IfOk result (λ machine. machine.line ≡ line.now) }
         ensures tick { IfOk result (λ machine. machine.tick ≡ D.first_tick driver.now) }
-        ensures frame { IfOk result (λ machine. scene_of machine.frame ≡ plays.empty_scene (layout_of line.now) (D.place driver.now)) }
+        ensures frame { IfOk result (λ machine. scene_of machine.frame
+            ≡ plays.empty_scene (layout_of line.now) (D.place driver.now)) }
     {
         let hoists = line.hoists();
         let at = positions(alloc, driver, hoists)?;
@@ -81,7 +82,9 @@ impl<'a> Playing<'a> {
         requires hoists { D.hoists driver.now ≡ self.old.line.hoists }
         requires small { self.old.tick < 2 ^ 61 }
         ensures line { self.new.line ≡ self.old.line }
-        ensures step { IfOk result (λ breach. plays.next_step (layout_of self.old.line) self.old.tick (D.command driver.now self.old.tick) (Ok (machines.reached self.old log.old.items)) ≡ plays.reached_or self.old.tick breach (machines.reached self.new log.new.items)) }
+        ensures step { IfOk result (λ breach. plays.next_step (layout_of self.old.line) self.old.tick
+            (D.command driver.now self.old.tick) (Ok (machines.reached self.old log.old.items))
+            ≡ plays.reached_or self.old.tick breach (machines.reached self.new log.new.items)) }
         ensures tick { IfOk result (λ breach. breach ≡ None → self.new.tick ≡ self.old.tick + 1) }
         ensures breach { IfOk result (λ breach. IfSome breach (λ _. self.new ≡ self.old)) }
         ensures memory { OnErr result (self.new ≡ self.old) }
@@ -137,7 +140,9 @@ fn play_tick(
     requires order { IsSizedOrder line.now.hoists order.now }
     requires new { IsSized line.now new.old }
     requires below { IsBelow (2 ^ 62) (scene_of old.now) }
-    ensures step { IfOk result (λ end. plays.next_step (layout_of line.now) tick (command_of order.now) (Ok (record { frame = scene_of old.now; log = log.old.items })) ≡ plays.reached_or tick end (record { frame = scene_of new.new; log = log.new.items })) }
+    ensures step { IfOk result (λ end. plays.next_step (layout_of line.now) tick (command_of order.now)
+        (Ok (record { frame = scene_of old.now; log = log.old.items }))
+        ≡ plays.reached_or tick end (record { frame = scene_of new.new; log = log.new.items })) }
     ensures sized { IsSized line.now new.new }
     ensures valid { IsLine line.now }
 {

@@ -31,7 +31,9 @@ pub fn play<D: Driver>(alloc: Global, line: &Line, driver: &D) -> Result<Played,
     requires apart { AreApart (layout_of line.now) (D.place driver.now) }
     requires hoists { D.hoists driver.now ≡ line.now.hoists }
     requires still { (h : ℕ) → h < line.now.hoists → (D.command driver.now (D.first_tick driver.now)).go h ≡ Stay }
-    ensures run { IfOk result (plays.IsPlayed (plays.run (layout_of line.now) (D.place driver.now) (D.command driver.now) (D.first_tick driver.now) (D.last_tick driver.now))) }
+    ensures run { IfOk result (plays.IsPlayed
+        (plays.run (layout_of line.now) (D.place driver.now) (D.command driver.now) (D.first_tick driver.now)
+        (D.last_tick driver.now))) }
     ensures end { IfOk result (plays.EndsIn line.now) }
 {
     let mut playing = Playing::begin(alloc, line, driver)?;

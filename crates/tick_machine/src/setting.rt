@@ -36,7 +36,8 @@ fn set_down(line: &Line, h: u32, frame: &mut Frame)
 pub(crate) fn set_down_all(line: &Line, frame: &mut Frame)
     requires sized { IsSized line.now frame.old }
     requires fits { Fits (layout_of line.now) 2000 (scene_of frame.old) }
-    ensures scene { scene_of frame.new ≡ steps.each (points.set_down (layout_of line.now)) line.now.hoists (scene_of frame.old) }
+    ensures scene { scene_of frame.new ≡ steps.each (points.set_down (layout_of line.now)) line.now.hoists
+        (scene_of frame.old) }
     ensures fits { Fits (layout_of line.now) 2000 (scene_of frame.new) }
     ensures sized { IsSized line.now frame.new }
     ensures next { frame.new.next ≡ frame.old.next }
@@ -68,7 +69,8 @@ fn lift_out(line: &Line, h: u32, frame: &mut Frame)
 pub(crate) fn lift_out_all(line: &Line, frame: &mut Frame)
     requires sized { IsSized line.now frame.old }
     requires fits { Fits (layout_of line.now) 2000 (scene_of frame.old) }
-    ensures scene { scene_of frame.new ≡ steps.each (points.lift_out (layout_of line.now)) line.now.hoists (scene_of frame.old) }
+    ensures scene { scene_of frame.new ≡ steps.each (points.lift_out (layout_of line.now)) line.now.hoists
+        (scene_of frame.old) }
     ensures fits { Fits (layout_of line.now) 2000 (scene_of frame.new) }
     ensures sized { IsSized line.now frame.new }
     ensures next { frame.new.next ≡ frame.old.next }

@@ -46,8 +46,10 @@ pub(crate) fn take_off(line: &Line, order: &Order, frame: &mut Frame) -> Result<
     requires sized { IsSized line.now frame.old }
     requires fits { Fits (layout_of line.now) 2000 (scene_of frame.old) }
     ensures breach { error_of result ≡ points.no_off (layout_of line.now) (command_of order.now) (scene_of frame.old) }
-    ensures scene { OnOk result (scene_of frame.new ≡ points.taken_off (layout_of line.now) (command_of order.now) (scene_of frame.old)) }
-    ensures who { IfOk result (λ who. off_of order.now.off ((scene_of frame.old).hold (layout_of line.now).unload_tank) ≡ option_map events.Off who) }
+    ensures scene { OnOk result (scene_of frame.new
+        ≡ points.taken_off (layout_of line.now) (command_of order.now) (scene_of frame.old)) }
+    ensures who { IfOk result (λ who. off_of order.now.off ((scene_of frame.old).hold (layout_of line.now).unload_tank)
+        ≡ option_map events.Off who) }
     ensures fits { Fits (layout_of line.now) 2000 (scene_of frame.new) }
     ensures sized { IsSized line.now frame.new }
     ensures next { frame.new.next ≡ frame.old.next }
@@ -71,7 +73,8 @@ pub(crate) fn put_on(line: &Line, order: &Order, frame: &mut Frame) -> Result<()
     requires fits { Fits (layout_of line.now) 2000 (scene_of frame.old) }
     requires next { frame.old.next < 2 ^ 62 }
     ensures breach { error_of result ≡ points.no_put (layout_of line.now) (command_of order.now) (scene_of frame.old) }
-    ensures scene { OnOk result (scene_of frame.new ≡ points.put_on (layout_of line.now) (command_of order.now) (scene_of frame.old)) }
+    ensures scene { OnOk result (scene_of frame.new
+        ≡ points.put_on (layout_of line.now) (command_of order.now) (scene_of frame.old)) }
     ensures fits { Fits (layout_of line.now) 2000 (scene_of frame.new) }
     ensures sized { IsSized line.now frame.new }
 {

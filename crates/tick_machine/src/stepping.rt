@@ -29,7 +29,8 @@ fn pass(line: &Line, old: &Frame, order: &Order, new: &mut Frame)
     requires new { IsSized line.now new.old }
     requires fits { Fits (layout_of line.now) 1999 (scene_of old.now) }
     requires below { IsBelow (2 ^ 62) (scene_of old.now) }
-    requires edges { steps.first line.now.hoists (points.edge (layout_of line.now) (command_of order.now) (scene_of old.now)) ≡ None }
+    requires edges { steps.first line.now.hoists
+        (points.edge (layout_of line.now) (command_of order.now) (scene_of old.now)) ≡ None }
     ensures scene { scene_of new.new ≡ steps.after_free (layout_of line.now) (command_of order.now) (scene_of old.now) }
     ensures fits { Fits (layout_of line.now) 2000 (scene_of new.new) }
     ensures sized { IsSized line.now new.new }
@@ -52,8 +53,11 @@ pub(crate) fn advance(
     requires new { IsSized line.now new.old }
     requires rules { KeepsRules (layout_of line.now) (scene_of old.now) }
     requires below { IsBelow (2 ^ 62) (scene_of old.now) }
-    ensures step { steps.made result (scene_of new.new) ≡ steps.step (layout_of line.now) (command_of order.now) (scene_of old.now) }
-    ensures who { IfOk result (λ who. off_of order.now.off ((steps.after_free (layout_of line.now) (command_of order.now) (scene_of old.now)).hold (layout_of line.now).unload_tank) ≡ option_map events.Off who) }
+    ensures step { steps.made result (scene_of new.new)
+        ≡ steps.step (layout_of line.now) (command_of order.now) (scene_of old.now) }
+    ensures who { IfOk result (λ who. off_of order.now.off
+        ((steps.after_free (layout_of line.now) (command_of order.now) (scene_of old.now)).hold
+        (layout_of line.now).unload_tank) ≡ option_map events.Off who) }
     ensures sized { IsSized line.now new.new }
     ensures valid { IsLine line.now }
 {
@@ -102,7 +106,8 @@ pub fn step(line: &Line, old: &Frame, order: &Order, new: &mut Frame) -> Result<
     requires order { IsSizedOrder line.now.hoists order.now }
     requires new { IsSized line.now new.old }
     requires below { IsBelow (2 ^ 62) (scene_of old.now) }
-    ensures step { steps.made result (scene_of new.new) ≡ steps.step (layout_of line.now) (command_of order.now) (scene_of old.now) }
+    ensures step { steps.made result (scene_of new.new)
+        ≡ steps.step (layout_of line.now) (command_of order.now) (scene_of old.now) }
     ensures frame { OnOk result (IsFrame line.now new.new) }
     ensures grows { (n : ℕ) → IsBelow n (scene_of old.now) → OnOk result (IsBelow (n + 1) (scene_of new.new)) }
     ensures sized { IsSized line.now new.new }

@@ -77,7 +77,8 @@ pub(crate) fn first_carry(line: &Line, t: &Timetable) -> Option<Fault>
 fn first_partner(line: &Line, t: &Timetable, a: MoveId) -> Option<(u32, i64)>
     requires fits { FitsLine line.now t.now }
     requires there { IsMove line.now a.carrier a.step }
-    ensures first { IsFirstPartner (last_stage line.now) (CarriesTwo line.now (timetable_of t.now) a.carrier a.step) result }
+    ensures first { IsFirstPartner (last_stage line.now)
+        (CarriesTwo line.now (timetable_of t.now) a.carrier a.step) result }
     ensures there { IfSome result (λ x. x.0 < move_count line.now) }
 {
     for number in line.move_number(a)..line.move_count() {
@@ -112,7 +113,8 @@ fn carry_of(line: &Line, t: &Timetable, m: MoveId) -> Stretch
     requires fits { FitsLine line.now t.now }
     requires there { IsMove line.now m.carrier m.step }
     ensures begin { result.begin ≡ (timetable_of t.now).start m.carrier m.step }
-    ensures end { result.end ≡ (timetable_of t.now).start m.carrier m.step + lasting.duration (model.motion line.now (timetable_of t.now) m.carrier m.step) }
+    ensures end { result.end ≡ (timetable_of t.now).start m.carrier m.step + lasting.duration
+        (model.motion line.now (timetable_of t.now) m.carrier m.step) }
     ensures small { result.begin ≤ 2000000000 }
     ensures end_small { result.end ≤ 2000000000 }
 {

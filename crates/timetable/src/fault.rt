@@ -1,7 +1,8 @@
 // What can be wrong with a timetable.
 use hoist_base::{MoveId, VisitId};
 
-/// A fault of a timetable. Faults are ordered by their variants in this order, then by their values in the order of the fields.
+/// A fault of a timetable. Faults are ordered by their variants in this order, then by their values in the order of the
+/// fields.
 ///
 /// Ticks of the period go from 0 on; positions are those of the timetable.
 #[derive(Clone, Copy, Debug, PartialEq, Eq)]

@@ -11,8 +11,8 @@ use crate::parts::TimetableParts;
 use hoist_base::Line;
 
 impl TimetableParts {
-    /// Whether these parts make a timetable of the line: whether each list has its length there, the period and the ticks keep
-    /// their bounds, each hoist is there, and each tank is one of its stage. It takes no memory.
+    /// Whether these parts make a timetable of the line: whether each list has its length there, the period and the
+    /// ticks keep their bounds, each hoist is there, and each tank is one of its stage. It takes no memory.
     pub fn fits(&self, line: &Line) -> bool
         ensures { IsTrue result ↔ IsTimetableOf line.now (data_of (last_stage line.now) self.now) }
     {
@@ -38,7 +38,9 @@ fn has_counts(line: &Line, parts: &TimetableParts) -> bool
 }
 
 fn are_counts(parts: &TimetableParts, carriers: usize, moves: usize, positions: usize) -> bool
-    ensures { IsTrue result ↔ ((length parts.now.put.items ≡ carriers) × (length parts.now.off.items ≡ carriers) × (length parts.now.start.items ≡ moves) × (length parts.now.hoist.items ≡ moves) × (length parts.now.path.items ≡ positions)) }
+    ensures { IsTrue result ↔ ((length parts.now.put.items ≡ carriers) × (length parts.now.off.items ≡ carriers)
+        × (length parts.now.start.items ≡ moves) × (length parts.now.hoist.items ≡ moves)
+        × (length parts.now.path.items ≡ positions)) }
 {
     parts.put.len() == carriers
         && parts.off.len() == carriers

@@ -30,7 +30,8 @@ pub(crate) fn first_hold(line: &Line, t: &Timetable) -> Option<Fault>
 fn first_partner(line: &Line, t: &Timetable, a: VisitId) -> Option<(u32, i64)>
     requires fits { FitsLine line.now t.now }
     requires there { IsVisit line.now a.carrier a.stage }
-    ensures first { IsFirstPartner (length line.now.stages) (HoldTwo line.now (timetable_of t.now) a.carrier a.stage) result }
+    ensures first { IsFirstPartner (length line.now.stages)
+        (HoldTwo line.now (timetable_of t.now) a.carrier a.stage) result }
     ensures there { IfSome result (λ x. x.0 < visit_count line.now) }
 {
     for number in line.visit_number(a)..line.visit_count() {

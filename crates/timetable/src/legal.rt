@@ -14,8 +14,8 @@ use hoist_base::Line;
 
 /// The first fault of a timetable whose lists fit the line, or None where it is legal. It takes no memory.
 ///
-/// Of the faults that it has, that of the first variant of `Fault` is taken, and of these the first by its values in the
-/// order of the fields. The shift of a Carry or a Hold is the least whole number of periods for which the two meet.
+/// Of the faults that it has, that of the first variant of `Fault` is taken, and of these the first by its values in
+/// the order of the fields. The shift of a Carry or a Hold is the least whole number of periods for which the two meet.
 pub fn first_fault(line: &Line, t: &Timetable) -> Option<Fault>
     requires { FitsLine line.now t.now }
     ensures legal { (result ≡ None) ↔ IsLegal line.now (timetable_of t.now) }

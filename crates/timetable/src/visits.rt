@@ -29,8 +29,8 @@ pub fn arrival(line: &Line, t: &Timetable, v: VisitId) -> u64
     t.start(m) + duration(motion(line, t, m)) as u64
 }
 
-/// The tick at which a carrier ends its rest in its tank of a visit: it is taken off at the unload station, and its lift
-/// starts elsewhere. The line has the visit, and the timetable fits the line.
+/// The tick at which a carrier ends its rest in its tank of a visit: it is taken off at the unload station, and its
+/// lift starts elsewhere. The line has the visit, and the timetable fits the line.
 pub fn departure(line: &Line, t: &Timetable, v: VisitId) -> u64
     requires fits { FitsLine line.now t.now }
     requires there { IsVisit line.now v.carrier v.stage }

@@ -24,8 +24,8 @@ pub(crate) fn first_dwell(line: &Line, t: &Timetable) -> Option<Fault>
     None
 }
 
-/// The ticks that a carrier rests in its tank, from its arrival to its departure; below 0 where it would leave before it
-/// comes. The line has the visit, and the timetable fits the line.
+/// The ticks that a carrier rests in its tank, from its arrival to its departure; below 0 where it would leave before
+/// it comes. The line has the visit, and the timetable fits the line.
 pub fn dwell(line: &Line, t: &Timetable, v: VisitId) -> i64
     requires fits { FitsLine line.now t.now }
     requires there { IsVisit line.now v.carrier v.stage }
@@ -37,7 +37,8 @@ pub fn dwell(line: &Line, t: &Timetable, v: VisitId) -> i64
 // Whether a dwell at this stage is below the least or above the greatest.
 fn is_outside(line: &Line, k: u32, ticks: i64) -> bool
     requires { IsStageOf line.now k }
-    ensures { IsTrue result ↔ ((ticks <ℤ pos (faults.least_dwell line.now k)) ⊎ MatchOption (stage line.now k).max ⊥ (λ m. pos m <ℤ ticks)) }
+    ensures { IsTrue result ↔ ((ticks <ℤ pos (faults.least_dwell line.now k))
+        ⊎ MatchOption (stage line.now k).max ⊥ (λ m. pos m <ℤ ticks)) }
 {
     if ticks < least_dwell(line, k) as i64 {
         return true;
@@ -48,8 +49,8 @@ fn is_outside(line: &Line, k: u32, ticks: i64) -> bool
     }
 }
 
-/// The fewest ticks that a carrier has to rest at stage k of the line: the stage's own `min`, but at the load station the
-/// ticks that a load takes, and at the unload station those that an unload takes.
+/// The fewest ticks that a carrier has to rest at stage k of the line: the stage's own `min`, but at the load station
+/// the ticks that a load takes, and at the unload station those that an unload takes.
 pub fn least_dwell(line: &Line, k: u32) -> u32
     requires { IsStageOf line.now k }
     ensures { result ≡ faults.least_dwell line.now k }

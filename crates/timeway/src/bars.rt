@@ -107,7 +107,8 @@ fn bar_title(alloc: Global, line: &Line, t: &Timetable, v: VisitId) -> Result<Ve
 fn push_place(text: &mut Vec<u8>, line: &Line, t: &Timetable, v: VisitId) -> Result<(), AllocError>
     requires fits { FitsLine line.now t.now }
     requires there { IsVisit line.now v.carrier v.stage }
-    ensures { OnOk result (text.new.items ≡ text.old.items ++ shapes.bar_place line.now (timetable_of t.now) v.carrier v.stage) }
+    ensures { OnOk result (text.new.items ≡ text.old.items
+        ++ shapes.bar_place line.now (timetable_of t.now) v.carrier v.stage) }
 {
     push_word_number(text, b"carrier ", v.carrier as u64)?;
     text.extend_from_slice(b" in ")?;
@@ -119,7 +120,8 @@ fn push_place(text: &mut Vec<u8>, line: &Line, t: &Timetable, v: VisitId) -> Res
 fn push_window(text: &mut Vec<u8>, line: &Line, t: &Timetable, v: VisitId) -> Result<(), AllocError>
     requires fits { FitsLine line.now t.now }
     requires there { IsVisit line.now v.carrier v.stage }
-    ensures { OnOk result (text.new.items ≡ text.old.items ++ shapes.bar_window line.now (timetable_of t.now) v.carrier v.stage) }
+    ensures { OnOk result (text.new.items ≡ text.old.items
+        ++ shapes.bar_window line.now (timetable_of t.now) v.carrier v.stage) }
 {
     push_word_number(text, b": dwell ", rest_ticks(line, t, v))?;
     push_word_number(text, b", window ", least_dwell(line, v.stage) as u64)?;

@@ -21,9 +21,9 @@ use std::alloc::{AllocError, Global};
 use text_writing::{push_number, push_word_number};
 use timetable::Timetable;
 
-/// The time-way diagram of a timetable that fits its line: two periods with ticks to the right and positions upward. Each
-/// hoist's way is a line through its positions at all ticks, over which a line of the carrier's class lies while it
-/// carries; each stay in a tank is a bar of the carrier's class, from the start of lowering to the end of lifting.
+/// The time-way diagram of a timetable that fits its line: two periods with ticks to the right and positions upward.
+/// Each hoist's way is a line through its positions at all ticks, over which a line of the carrier's class lies while
+/// it carries; each stay in a tank is a bar of the carrier's class, from the start of lowering to the end of lifting.
 pub fn diagram(alloc: Global, line: &Line, t: &Timetable) -> Result<Element, AllocError>
     requires { FitsLine line.now t.now }
     ensures { IfOk result (λ e. e ≡ diagrams.diagram line.now (timetable_of t.now)) }
@@ -123,7 +123,8 @@ fn with_grid(
     period: u32,
 ) -> Result<Element, AllocError>
     requires { period ≤ 20000 }
-    ensures { IfOk result (λ e. e ≡ holding_all plot (map (diagrams.grid_line line.now period) (range_with_len 0 (scales.grid_count period)))) }
+    ensures { IfOk result (λ e. e ≡ holding_all plot
+        (map (diagrams.grid_line line.now period) (range_with_len 0 (scales.grid_count period)))) }
 {
     for i in 0..grid_count(period) {
         let shape = grid_line(alloc, line, period, i)?;
@@ -157,7 +158,8 @@ fn with_tanks(
     period: u32,
 ) -> Result<Element, AllocError>
     requires { period ≤ 20000 }
-    ensures { IfOk result (λ e. e ≡ holding_all plot (map (diagrams.tank_line line.now period) (range_with_len 0 (length line.now.tanks)))) }
+    ensures { IfOk result (λ e. e ≡ holding_all plot
+        (map (diagrams.tank_line line.now period) (range_with_len 0 (length line.now.tanks)))) }
 {
     for i in 0..line.tanks().len() as u32 {
         let shape = tank_line(alloc, line, period, i)?;
@@ -174,7 +176,9 @@ fn with_bars(
     t: &Timetable,
 ) -> Result<Element, AllocError>
     requires { FitsLine line.now t.now }
-    ensures { IfOk result (λ e. e ≡ holding_all plot (map (λ i. shapes.bar line.now (timetable_of t.now) (visit_at line.now i).carrier (visit_at line.now i).stage) (range_with_len 0 (visit_count line.now)))) }
+    ensures { IfOk result (λ e. e ≡ holding_all plot
+        (map (λ i. shapes.bar line.now (timetable_of t.now) (visit_at line.now i).carrier (visit_at line.now i).stage)
+        (range_with_len 0 (visit_count line.now)))) }
 {
     for i in 0..line.visit_count() {
         let shape = bar(alloc, line, t, line.visit_at(i))?;
@@ -191,7 +195,8 @@ fn with_ways(
     t: &Timetable,
 ) -> Result<Element, AllocError>
     requires { FitsLine line.now t.now }
-    ensures { IfOk result (λ e. e ≡ holding_all plot (map (shapes.way line.now (timetable_of t.now)) (range_with_len 0 line.now.hoists))) }
+    ensures { IfOk result (λ e. e ≡ holding_all plot
+        (map (shapes.way line.now (timetable_of t.now)) (range_with_len 0 line.now.hoists))) }
 {
     for h in 0..line.hoists() {
         let shape = way(alloc, line, t, h)?;
@@ -208,7 +213,9 @@ fn with_rides(
     t: &Timetable,
 ) -> Result<Element, AllocError>
     requires { FitsLine line.now t.now }
-    ensures { IfOk result (λ e. e ≡ holding_all plot (map (λ i. shapes.ride line.now (timetable_of t.now) (move_at line.now i).carrier (move_at line.now i).step) (range_with_len 0 (move_count line.now)))) }
+    ensures { IfOk result (λ e. e ≡ holding_all plot
+        (map (λ i. shapes.ride line.now (timetable_of t.now) (move_at line.now i).carrier (move_at line.now i).step)
+        (range_with_len 0 (move_count line.now)))) }
 {
     for i in 0..line.move_count() {
         let shape = ride(alloc, line, t, line.move_at(i))?;
@@ -219,7 +226,8 @@ fn with_rides(
 
 /// The names of the tanks.
 fn with_names(alloc: Global, mut whole: Element, line: &Line) -> Result<Element, AllocError>
-    ensures { IfOk result (λ e. e ≡ holding_all whole (map (diagrams.tank_note line.now) (range_with_len 0 (length line.now.tanks)))) }
+    ensures { IfOk result (λ e. e ≡ holding_all whole
+        (map (diagrams.tank_note line.now) (range_with_len 0 (length line.now.tanks)))) }
 {
     for i in 0..line.tanks().len() as u32 {
         let words = tank_note(alloc, line, i)?;
@@ -237,7 +245,8 @@ fn with_ticks(
 ) -> Result<Element, AllocError>
     requires some { 1 ≤ period }
     requires small { period ≤ 20000 }
-    ensures { IfOk result (λ e. e ≡ holding_all whole (map (diagrams.tick_note line.now period) (range_with_len 0 (scales.grid_count period)))) }
+    ensures { IfOk result (λ e. e ≡ holding_all whole
+        (map (diagrams.tick_note line.now period) (range_with_len 0 (scales.grid_count period)))) }
 {
     for i in 0..grid_count(period) {
         let words = tick_note(alloc, line, period, i)?;

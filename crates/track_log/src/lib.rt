@@ -1,4 +1,5 @@
-//! Logs of what the control of a line did, tick by tick: how far the tick machine follows them, and how they are written.
+//! Logs of what the control of a line did, tick by tick: how far the tick machine follows them, and how they are
+//written.
 #![tactic(auto)]
 
 mod fields;

@@ -61,7 +61,8 @@ fn first_above(line: &Line, at: &[u32]) -> Option<Breach>
 fn first_close(line: &Line, at: &[u32]) -> Option<Breach>
     requires count { length at.now ≡ line.now.hoists }
     requires small { All (λ x. x ≤ most_position) at.now }
-    ensures { result ≡ steps.first (line.now.hoists - 1) (following.close (layout_of line.now) (following.place at.now)) }
+    ensures { result ≡ steps.first (line.now.hoists - 1)
+        (following.close (layout_of line.now) (following.place at.now)) }
 {
     let pairs = line.hoists().saturating_sub(1);
     for h in 0..pairs {

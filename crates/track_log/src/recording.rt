@@ -76,7 +76,8 @@ fn push_tick(text: &mut Vec<u8>, order: &Order) -> Result<(), AllocError>
 #[tactic(auto, using(crate::proofs::Recorded::one_place))]
 fn push_places<D: Driver>(text: &mut Vec<u8>, driver: &D, hoists: u32) -> Result<(), AllocError>
     requires { hoists ≡ D.hoists driver.now }
-    ensures { OnOk result (text.new.items ≡ text.old.items ++ flat_map logs.position_text (places_of hoists (D.place driver.now))) }
+    ensures { OnOk result (text.new.items ≡ text.old.items
+        ++ flat_map logs.position_text (places_of hoists (D.place driver.now))) }
 {
     for h in 0..hoists {
         push_word_number(text, b" ", driver.at(h) as u64)?;
@@ -95,7 +96,8 @@ fn push_lines<D: Driver>(
 ) -> Result<(), AllocError>
     requires hoists { hoists ≡ D.hoists driver.now }
     requires small { first + ticks ≤ 2 ^ 64 }
-    ensures text { OnOk result (text.new.items ≡ text.old.items ++ flat_map logs.tick_text (lines_from hoists (D.command driver.now) first ticks)) }
+    ensures text { OnOk result (text.new.items
+        ≡ text.old.items ++ flat_map logs.tick_text (lines_from hoists (D.command driver.now) first ticks)) }
     ensures there { OnOk result (OrdersThere hoists (D.command driver.now) first ticks) }
 {
     let mut order = Order::idle(alloc, hoists)?;
@@ -116,8 +118,14 @@ pub fn write_log<D: Driver>(alloc: Global, line: &Line, driver: &D) -> Result<Ve
     requires hoists { D.hoists driver.now ≡ line.now.hoists }
     requires still { (h : ℕ) → h < line.now.hoists → (D.command driver.now (D.first_tick driver.now)).go h ≡ Stay }
     requires tanks { BeginsAtTanks line.now (D.command driver.now) (D.first_tick driver.now) (D.last_tick driver.now) }
-    ensures text { IfOk result (λ text. logs.IsTextOf line.now text.items (recorded line.now.hoists (D.place driver.now) (D.command driver.now) (D.first_tick driver.now) (D.last_tick driver.now))) }
-    ensures followed { IfOk result (λ text. GoesAs line.now (recorded line.now.hoists (D.place driver.now) (D.command driver.now) (D.first_tick driver.now) (D.last_tick driver.now)) (D.first_tick driver.now) (D.last_tick driver.now) (plays.run (layout_of line.now) (D.place driver.now) (D.command driver.now) (D.first_tick driver.now) (D.last_tick driver.now))) }
+    ensures text { IfOk result (λ text. logs.IsTextOf line.now text.items
+        (recorded line.now.hoists (D.place driver.now) (D.command driver.now) (D.first_tick driver.now)
+        (D.last_tick driver.now))) }
+    ensures followed { IfOk result (λ text. GoesAs line.now
+        (recorded line.now.hoists (D.place driver.now) (D.command driver.now) (D.first_tick driver.now)
+        (D.last_tick driver.now)) (D.first_tick driver.now) (D.last_tick driver.now)
+        (plays.run (layout_of line.now) (D.place driver.now) (D.command driver.now) (D.first_tick driver.now)
+        (D.last_tick driver.now))) }
 {
     let hoists = line.hoists();
     let first = driver.first();

@@ -55,7 +55,8 @@ fn begins<'a>(
     left: usize,
     tanks: &mut Vec<Option<u32>>,
 ) -> Result<&'a [u8], Stop>
-    ensures { Gives (λ x. (tanks.new.items, x.now)) result (at_most left (begins_at line.now 0 line.now.hoists bytes.now)) }
+    ensures { Gives (λ x. (tanks.new.items, x.now)) result
+        (at_most left (begins_at line.now 0 line.now.hoists bytes.now)) }
 {
     tanks.clear();
     let hoists = line.hoists();

@@ -80,7 +80,8 @@ fn play<'a>(
     requires valid { IsLine line.now }
     requires count { length at.now ≡ line.now.hoists }
     requires spaced { following.unspaced (layout_of line.now) (place at.now) ≡ None }
-    ensures played { IfOk result (λ x. IsPlayedOut line.now at.now (lines_at line.now 0 most_ticks bytes.now) x.0 x.1.now) }
+    ensures played { IfOk result (λ x. IsPlayedOut line.now at.now
+        (lines_at line.now 0 most_ticks bytes.now) x.0 x.1.now) }
     ensures broken { IfErr result (λ e. Fails e (lines_at line.now 0 most_ticks bytes.now)) }
 {
     let mut frame = empty(alloc, line, at)?;

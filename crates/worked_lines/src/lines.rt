@@ -1,7 +1,17 @@
 // The worked lines.
 ghost use Rattle.std.specs.Prelude.{IfSome};
 ghost use Rattle.worked_lines.specs.Sizes.{HasSizes};
-ghost use Rattle.worked_lines.specs.WorkedNumbers.{two_stations_numbers, one_bath_numbers, two_hoists_numbers, rinse_twice_numbers, one_station_numbers, thirteen_stages_numbers, far_tank_numbers, two_baths_numbers, slow_choice_numbers};
+ghost use Rattle.worked_lines.specs.WorkedNumbers.{
+  two_stations_numbers,
+  one_bath_numbers,
+  two_hoists_numbers,
+  rinse_twice_numbers,
+  one_station_numbers,
+  thirteen_stages_numbers,
+  far_tank_numbers,
+  two_baths_numbers,
+  slow_choice_numbers,
+};
 
 use crate::build::{Numbers, inner, line_of_rows, load, unload};
 use hoist_base::Line;

@@ -14,9 +14,9 @@ use outside::Gate;
 use std::alloc::{AllocError, Global};
 use std::thread::{Threads, join};
 
-/// The answers of the jobs, in the order of the jobs, by 1 to 64 workers, each in a new room. The board numbers the jobs
-/// for these workers, and the seat has all its claims and has used none. On `Ok` the seat drew each job's number exactly
-/// once. Whatever the answer, it has all claims again, left or used. With one worker no thread is started.
+/// The answers of the jobs, in the order of the jobs, by 1 to 64 workers, each in a new room. The board numbers the
+/// jobs for these workers, and the seat has all its claims and has used none. On `Ok` the seat drew each job's number
+/// exactly once. Whatever the answer, it has all claims again, left or used. With one worker no thread is started.
 pub fn run<W: Work, G: Gate, R: Threads + Sync>(
     rt: &R,
     alloc: Global,
@@ -153,7 +153,8 @@ fn share_out<W: Work, G: Gate, R: Threads + Sync>(
                 × IfOk result.1 (λ part. Serve (W.serves work.entry.now) (length rooms.items) part.1.items) }
         { share_out(rt, alloc, board, seat, work, jobs, rooms, gate) },
         move || -> (Seat, Part<W::Out, W::Room>)
-            requires { IsSync R.row × (1 ≤ length others.items) × (length others.items ≤ 64) × (length jobs.now < 2 ^ 32)
+            requires { IsSync R.row × (1 ≤ length others.items) × (length others.items ≤ 64)
+                × (length jobs.now < 2 ^ 32)
                 × All (λ job. W.takes work.now job) jobs.now × (board.now.n ≡ length jobs.now)
                 × (other ≡ fresh_seat board.now (length others.items * (length jobs.now + 1)))
                 × All (λ room. W.serves work.now room) others.items }

@@ -40,9 +40,9 @@ pub fn work_in<W: Work, G: Gate>(
     Ok((kept, rooms))
 }
 
-/// Claims and answers jobs until none is left, in the room that it is lent, by a new seat with one claim more than there
-/// are jobs. It passes the gate with each job's number. On want of memory after a claim it stops the board; where the
-/// board was stopped its answer is want of memory too. On `Ok` the room serves again.
+/// Claims and answers jobs until none is left, in the room that it is lent, by a new seat with one claim more than
+/// there are jobs. It passes the gate with each job's number. On want of memory after a claim it stops the board; where
+/// the board was stopped its answer is want of memory too. On `Ok` the room serves again.
 fn work_alone<W: Work, G: Gate>(
     alloc: Global,
     board: &Board,
