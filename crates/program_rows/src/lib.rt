@@ -1,27 +1,14 @@
-//! The worked rows of the whole programs, over files in memory.
+//! What the whole programs do over files in memory: each command once, faults of files, and proposals of other bytes.
+//! The linked programs are held against tables by `.ci/commands`.
 #![tactic(auto)]
 
 #[cfg(test)]
 mod answers;
 #[cfg(test)]
-mod checks;
+mod commands;
 #[cfg(test)]
-mod edges;
-#[cfg(test)]
-mod further;
-#[cfg(test)]
-mod lines;
-#[cfg(test)]
-mod pictures;
-#[cfg(test)]
-mod proofs;
+mod faults;
 #[cfg(test)]
 mod runs;
 #[cfg(test)]
-mod runs_and_charts;
-#[cfg(test)]
-mod six_hoists;
-#[cfg(test)]
-mod solves;
-#[cfg(test)]
-mod words;
+mod settled;

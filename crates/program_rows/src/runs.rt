@@ -1,10 +1,18 @@
 // Runs of the top calls over files in memory.
 use hoist_cli::{Status, hoist};
+use line_text::write_line;
 use outside::{MemoryShelf, MemorySink, OpenGate, Shelf, Sink, SteadyShelf, SteadySink};
 use prove_cli::hoist_prove;
 use std::alloc::{AllocError, Global};
 use std::test::Fail;
 use std::thread::Threads;
+use worked_lines::two_stations;
+
+/// The file of the line of two stations.
+pub(crate) fn stations_file(alloc: Global) -> Result<Vec<u8>, Fail> {
+    let line = two_stations(alloc).ok_or("no line")?;
+    Ok(write_line(alloc, &line)?)
+}
 
 /// The words of a command as they stand between its blanks.
 fn words_of(alloc: Global, command: &str) -> Result<Vec<String>, AllocError> {
