@@ -31,7 +31,10 @@ fn each_write_that_fails_leaves_a_prefix(rt: HostRuntime) -> Result<(), Fail> {
     let line = stations_file(alloc)?;
     assert!(rt; leaves_a_prefix(&rt, alloc, line.as_slice(), 16, 1)?);
     for n in 0..TWO_STATIONS_ANSWER.len() {
-        assert!(rt; leaves_a_prefix(&rt, alloc, line.as_slice(), 1, n)?, "write {n}");
+        assert!(rt;
+            leaves_a_prefix(&rt, alloc, line.as_slice(), 1, n)?,
+            "write {n}"
+        );
     }
     Ok(())
 }

@@ -1,10 +1,9 @@
-//! Worked rows of the search, from constraints to whole searches and their checker.
+//! Worked rows of the search, from constraints to whole searches, and jobs that meet at gates. What a command prints is
+//! tried on the linked programs by `.ci/commands`.
 #![tactic(auto)]
 
 #[cfg(test)]
 mod batches;
-#[cfg(test)]
-mod checks;
 #[cfg(test)]
 mod closed_walks;
 #[cfg(test)]
@@ -18,9 +17,13 @@ mod first_questions;
 #[cfg(test)]
 mod hunts;
 #[cfg(test)]
+mod laws;
+#[cfg(test)]
 mod longest_paths;
 #[cfg(test)]
 mod margins;
+#[cfg(test)]
+mod meeting;
 #[cfg(test)]
 mod plans;
 #[cfg(test)]
@@ -28,8 +31,4 @@ mod proposals;
 #[cfg(test)]
 mod searches;
 #[cfg(test)]
-mod sweeps;
-#[cfg(test)]
 mod workers;
-#[cfg(test)]
-mod writable;

@@ -3,11 +3,10 @@
 
 ghost use Rattle.std.specs.Prelude.{◌≡◌, ◌^◌, ◌<◌, ◌≤◌, ◌+◌, ◌*◌, length};
 
+use crate::meeting::{Meeting, TRIES};
 use claim_board::Board;
 use outside::{Gate, OpenGate};
 use std::alloc::{AllocError, Global};
-use std::hint::spin_loop;
-use std::sync::atomic::{AtomicBool, Ordering};
 use std::test::Fail;
 use std::thread::Threads;
 use worker_pool::{Work, laws, run};
@@ -101,47 +100,14 @@ fn answers_stand_in_order(rt: HostRuntime) -> Result<(), Fail> {
     Ok(())
 }
 
-// How often a held job looks whether the other came.
-const TURNS: u32 = 1 << 26;
-
-// The tries in which two jobs have to meet once.
-const TRIES: u32 = 8;
-
-/// It holds job 0 until job 1 has gone through, for so many turns at most.
-#[derive(Drop)]
-struct Meeting {
-    gone: AtomicBool,
-    seen: AtomicBool,
-}
-
-impl Gate for Meeting {
-    fn pass(&self, job: u64) {
-        if job == 1 {
-            self.gone.store(true, Ordering::SeqCst);
-            return;
-        }
-        for _turn in 0..TURNS {
-            if self.gone.load(Ordering::SeqCst) {
-                break;
-            }
-            spin_loop();
-        }
-        self.seen
-            .store(self.gone.load(Ordering::SeqCst), Ordering::SeqCst);
-    }
-}
-
 #[test]
 fn two_at_once(rt: HostRuntime) -> Result<(), Fail> {
     let mut met = false;
     for _try in 0..TRIES {
-        let gate = Meeting {
-            gone: AtomicBool::new(false),
-            seen: AtomicBool::new(false),
-        };
+        let gate = Meeting::new();
         let (outs, _) = answered(&rt, rt.alloc(), &NEVER_STARVED, &[4, 0], 2, &gate)?;
         assert_eq!(rt; outs.as_slice(), [13, 1].as_slice());
-        met = gate.seen.load(Ordering::SeqCst);
+        met = gate.saw_both();
         if met {
             break;
         }
