@@ -1,0 +1,4 @@
+pub mod Paths
+pub mod Setting
+pub mod Shown
+pub mod Sections

@@ -1,0 +1,4 @@
+pub mod Decisions
+pub mod Nearest
+pub mod Reason
+pub mod Laws

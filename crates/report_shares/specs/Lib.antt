@@ -1,0 +1,5 @@
+pub mod Ticks
+pub mod Figures
+pub mod Shares
+pub mod Numbers
+pub mod Laws

@@ -1,0 +1,27 @@
+-- Tanks by name, and carriers.
+use Rattle.std.specs.Prelude.{ℕ, ℤ, List, [], ◌∷◌, ◌++◌, codes, decimal}
+use Rattle.std.specs.List.{flat_map}
+use Rattle.std.specs.Fmt.{signed_decimal}
+use Rattle.hoist_base.specs.LineData.{LineData, tank}
+use Rattle.choice_tree.specs.declared.question.Decision.{Decision}
+use Rattle.path_constraints.specs.Tanks.{tanks_below}
+
+-- one more tank that may serve
+abbrev pub or_name : LineData → ℕ → List ℕ
+or_name l i = codes " or " ++ (tank l i).name
+
+-- tanks by name, of which one serves
+abbrev pub names : LineData → List ℕ → List ℕ
+names l [] = []
+names l (i ∷ is) = (tank l i).name ++ flat_map (or_name l) is
+
+-- the tanks that the path leaves open to the visit of stage k by carrier c
+abbrev pub place : LineData → List Decision → ℕ → ℕ → List ℕ
+place l path c k = names l (tanks_below l path c k)
+
+abbrev pub carrier_text : ℕ → List ℕ
+carrier_text c = codes "carrier " ++ decimal c
+
+-- so many periods later
+abbrev pub later_text : ℤ → List ℕ
+later_text q = codes ", " ++ (signed_decimal q ++ codes " periods later")
