@@ -2,17 +2,13 @@
 use Rattle.std.specs.Prelude.{◌≡◌, ℕ, ◌+◌, ◌<◌, ◌↔◌, IsTrue}
 use Rattle.hoist_base.specs.LineData.{LineData}
 use Rattle.hoist_base.specs.Valid.{IsLine}
-use Rattle.line_model.specs.Timetable.{Timetable, later}
-use Rattle.line_model.specs.Legal.{CarriesAt}
+use Rattle.line_model.specs.Timetable.{Timetable}
+use Rattle.gantt_report.specs.Chart.{Carries}
 use Rattle.report_shares.specs.Ticks.{carries, carrying, driving, standing}
 
 -- the ticks of carrying, of driving without a load and of standing add up to the period
 abbrev pub SharesAddUp : Type 0
 SharesAddUp = (l : LineData) (p : Timetable) (h : ℕ) → carrying l p h + driving l p h + standing l p h ≡ p.period
-
--- hoist h carries at tick t of the period: at that tick or whole periods later, by some move of some period
-abbrev pub Carries : LineData → Timetable → ℕ → ℕ → Type 0
-Carries l p h t = (c : ℕ) × (k : ℕ) × (z : ℕ) × (turn : ℕ) × CarriesAt l p h c k z (later p turn t)
 
 -- in every timetable of a line a tick is counted as one of carrying exactly where the hoist carries
 abbrev pub CarryingIsTold : Type 0

@@ -21,6 +21,14 @@ fact name words = holding (holding (fresh tags.Row) (heading name)) (cell words)
 abbrev pub number_fact : List ℕ → ℕ → Form
 number_fact name n = holding (holding (fresh tags.Row) (heading name)) (number_cell n)
 
+-- a table with a name and its words behind what it has
+abbrev pub with_fact : Form → List ℕ → List ℕ → Form
+with_fact table name words = holding table (fact name words)
+
+-- a table with a name and its number behind what it has
+abbrev pub with_number : Form → List ℕ → ℕ → Form
+with_number table name n = holding table (number_fact name n)
+
 -- the ticks of a carrier in the line: from when it is lifted at the load until it rests at the unload
 abbrev pub line_time : LineData → Timetable → ℕ → ℕ
 line_time l p c = arrival l p c (last_stage l) - departure l p c 0
@@ -40,9 +48,10 @@ gap_words Unfinished period bound = codes "open: gap " ++ decimal (period - boun
 -- a table with the period, the carriers of a period and those of 1000 ticks behind what it has
 abbrev pub with_period : Form → ℕ → ℕ → Form
 with_period table degree period =
-    holding
-    (holding (holding table (number_fact (codes "period") period)) (number_fact (codes "carriers in a period") degree))
-    (fact (codes "carriers in 1000 ticks") (rate_words degree period))
+    with_fact
+    (with_number (with_number table (codes "period") period) (codes "carriers in a period") degree)
+    (codes "carriers in 1000 ticks")
+    (rate_words degree period)
 
 -- a table with the time of each carrier in the line behind what it has
 abbrev pub with_carriers : Form → LineData → Timetable → Form
@@ -51,13 +60,13 @@ with_carriers table l p = holding_all table (map (carrier_fact l p) (range_with_
 -- a table with the verdict, the bound, the questions and what is open behind what it has
 abbrev pub with_verdict : Form → Answer → ℕ → Form
 with_verdict table a period =
-    holding
-    (holding
-    (holding
-    (holding table (fact (codes "verdict") (verdict_text a.verdict)))
-    (number_fact (codes "bound") a.bound))
-    (number_fact (codes "questions") a.splits))
-    (fact (codes "result") (gap_words a.verdict period a.bound))
+    with_fact
+    (with_number
+    (with_number (with_fact table (codes "verdict") (verdict_text a.verdict)) (codes "bound") a.bound)
+    (codes "questions")
+    a.splits)
+    (codes "result")
+    (gap_words a.verdict period a.bound)
 
 abbrev pub table : LineData → Answer → Timetable → Form
 table l a p = with_verdict (with_carriers (with_period (fresh tags.Table) l.degree p.period) l p) a p.period

@@ -28,15 +28,17 @@ share_bar carried driven stood period =
     (part (codes "driving") carried (carried + driven)))
     (part (codes "standing") (carried + driven) (carried + driven + stood))
 
+-- a row with the ticks of one kind and their part of the period behind what it has
+abbrev pub with_share : Form → ℕ → ℕ → Form
+with_share row ticks period = holding row (cell (share_words ticks period))
+
 -- a hoist, its ticks of each kind with their part of the period, and the bar
 abbrev pub share_row : ℕ → ℕ → ℕ → ℕ → ℕ → Form
 share_row h carried driven stood period =
     holding
-    (holding
-    (holding
-    (holding (holding (fresh tags.Row) (number_cell h)) (cell (share_words carried period)))
-    (cell (share_words driven period)))
-    (cell (share_words stood period)))
+    (with_share
+    (with_share (with_share (holding (fresh tags.Row) (number_cell h)) carried period) driven period)
+    stood period)
     (holding (fresh tags.Cell) (share_bar carried driven stood period))
 
 -- the row of a hoist

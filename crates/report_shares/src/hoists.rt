@@ -3,8 +3,6 @@ ghost use Rattle.std.specs.Prelude.{◌≡◌, ◌+◌, ◌<◌, ◌≤◌, map,
 ghost use Rattle.std.specs.List.{range_with_len};
 ghost use Rattle.timetable.specs.TimetableData.{timetable_of, FitsLine};
 ghost use Rattle.markup.specs.Forms.{holding_all};
-ghost use Rattle.report_shares.specs.Figures as figures;
-ghost use Rattle.report_dwells.specs.Cells as cells;
 ghost use Rattle.report_shares.specs.Shares as rows;
 
 use crate::figures::share_words;
@@ -76,26 +74,28 @@ fn share_row(alloc: Global, h: u32, share: Share, period: u32) -> Result<Element
     ensures { IfOk result (λ e. e ≡ rows.share_row h share.carrying share.driving share.standing period) }
 {
     let name = number_cell(alloc, h as u64)?;
-    let carrying = share_cell(alloc, share.carrying, period)?;
-    let driving = share_cell(alloc, share.driving, period)?;
-    let standing = share_cell(alloc, share.standing, period)?;
+    let named = Element::new(alloc, Tag::Row).holding(&name)?;
+    let carrying = with_share(alloc, named, share.carrying, period)?;
+    let driving = with_share(alloc, carrying, share.driving, period)?;
+    let standing = with_share(alloc, driving, share.standing, period)?;
     let shape = share_bar(alloc, share, period)?;
     let drawing = Element::new(alloc, Tag::Cell).holding(&shape)?;
-    Element::new(alloc, Tag::Row)
-        .holding(&name)?
-        .holding(&carrying)?
-        .holding(&driving)?
-        .holding(&standing)?
-        .holding(&drawing)
+    standing.holding(&drawing)
 }
 
-/// The cell of ticks and their part of the period.
-fn share_cell(alloc: Global, ticks: u32, period: u32) -> Result<Element, AllocError>
+/// A row with ticks of one kind and their part of the period behind what it has.
+fn with_share(
+    alloc: Global,
+    row: Element,
+    ticks: u32,
+    period: u32,
+) -> Result<Element, AllocError>
     requires { 1 ≤ period }
-    ensures { IfOk result (λ e. e ≡ cells.cell (figures.share_words ticks period)) }
+    ensures { IfOk result (λ e. e ≡ rows.with_share row ticks period) }
 {
     let words = share_words(alloc, ticks, period)?;
-    cell(alloc, words.as_slice())
+    let shown = cell(alloc, words.as_slice())?;
+    row.holding(&shown)
 }
 
 /// A bar of the ticks of a period: those of carrying, then those of driving, then those of standing.

@@ -59,6 +59,32 @@ fn number_fact(alloc: Global, name: &[u8], number: u64) -> Result<Element, Alloc
         .holding(&number)
 }
 
+/// A table with a name and its words behind what it has.
+fn with_fact(
+    alloc: Global,
+    table: Element,
+    name: &[u8],
+    words: &[u8],
+) -> Result<Element, AllocError>
+    ensures { IfOk result (λ e. e ≡ tables.with_fact table name.now words.now) }
+{
+    let row = fact(alloc, name, words)?;
+    table.holding(&row)
+}
+
+/// A table with a name and its number behind what it has.
+fn with_number(
+    alloc: Global,
+    table: Element,
+    name: &[u8],
+    number: u64,
+) -> Result<Element, AllocError>
+    ensures { IfOk result (λ e. e ≡ tables.with_number table name.now number) }
+{
+    let row = number_fact(alloc, name, number)?;
+    table.holding(&row)
+}
+
 /// A table with the period, the carriers of a period and those of 1000 ticks behind what it has.
 fn with_period(
     alloc: Global,
@@ -70,10 +96,14 @@ fn with_period(
     ensures { IfOk result (λ e. e ≡ tables.with_period table degree period) }
 {
     let words = rate_words(alloc, degree, period)?;
-    let ticks = number_fact(alloc, b"period", period as u64)?;
-    let carriers = number_fact(alloc, b"carriers in a period", degree as u64)?;
-    let rate = fact(alloc, b"carriers in 1000 ticks", words.as_slice())?;
-    table.holding(&ticks)?.holding(&carriers)?.holding(&rate)
+    let ticks = with_number(alloc, table, b"period", period as u64)?;
+    let carriers = with_number(alloc, ticks, b"carriers in a period", degree as u64)?;
+    with_fact(
+        alloc,
+        carriers,
+        b"carriers in 1000 ticks",
+        words.as_slice(),
+    )
 }
 
 /// A table with the time of each carrier in the line behind what it has.
@@ -140,15 +170,10 @@ fn with_verdict(
     ensures { IfOk result (λ e. e ≡ tables.with_verdict table answer.now period) }
 {
     let words = gap_words(alloc, answer.verdict, period, answer.bound)?;
-    let verdict = fact(alloc, b"verdict", answer.verdict.word())?;
-    let bound = number_fact(alloc, b"bound", answer.bound as u64)?;
-    let questions = number_fact(alloc, b"questions", answer.splits as u64)?;
-    let gap = fact(alloc, b"result", words.as_slice())?;
-    table
-        .holding(&verdict)?
-        .holding(&bound)?
-        .holding(&questions)?
-        .holding(&gap)
+    let verdict = with_fact(alloc, table, b"verdict", answer.verdict.word())?;
+    let bound = with_number(alloc, verdict, b"bound", answer.bound as u64)?;
+    let questions = with_number(alloc, bound, b"questions", answer.splits as u64)?;
+    with_fact(alloc, questions, b"result", words.as_slice())
 }
 
 /// Whether a period is known to be the least, or how many ticks it is above the bound.

@@ -1,0 +1,2 @@
+pub mod CarryLaw
+pub mod Adding
