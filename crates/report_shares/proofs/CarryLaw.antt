@@ -1,11 +1,11 @@
 -- The test of a tick at which a hoist carries tells it.
-use Rattle.std.proofs.Common.{◌≡◌, ℕ, ◌+◌, ◌-◌, ◌*◌, ◌/◌, ◌%◌, ◌<◌, ◌≤◌, ◌==◌, ◌&&◌, nat_lt, Bool, true, get_or, sym, ap, ◌∙◌, mod-eq_of_lt, arith}
+use Rattle.std.proofs.Common.{◌≡◌, ℕ, ◌+◌, ◌-◌, ◌*◌, ◌/◌, ◌%◌, ◌<◌, ◌≤◌, zero, ◌==◌, ◌&&◌, nat_lt, Bool, true, get_or, sym, ap, ◌∙◌, mod-eq_of_lt, arith}
 use Rattle.std.specs.List.{range_with_len, list_any}
-use Rattle.std.proofs.Math.Nat.{add-mul-mod_self_right}
+use Rattle.std.proofs.Math.Nat.{add-mul-mod_self_right, mod-le, mod-lt}
 use Rattle.std.proofs.lemmas.Bool.Decides.{nat_tests}
 use Rattle.std.proofs.lemmas.List.Folds.{Any-from_list_any, list_any_at}
 use Rattle.std.proofs.lemmas.List.FromFn.{length-range_with_len, get_or-range_with_len}
-use Rattle.std.proofs.lemmas.Nat.{div-add-mod', div-mul-add, mod-mul-add, mod-le, mod-lt}
+use Rattle.std.proofs.lemmas.Nat.{div-add-mod', div-mul-add, mod-mul-add}
 use Rattle.hoist_base.specs.LineData.{LineData, last_stage, move_at, move_count, move_number}
 use Rattle.hoist_base.specs.Valid.{IsLine}
 use Rattle.hoist_base.proofs.NumberLemmas.{move_there, move_below}
@@ -35,11 +35,14 @@ both a h x n e = grind (arith, nat_tests)
 both_hold : (a h x n : ℕ) → a ≡ h → x < n → ((a == h) && nat_lt x n) ≡ true
 both_hold a h x n e f = grind (arith, nat_tests)
 
+positive : (t n : ℕ) → t < n → zero < n
+positive t n lt = omega (arith, lt)
+
 -- the ticks since the last start end at the tick
 since_ends : (s t n : ℕ) → t < n → (s + (t + (n - s % n)) % n) % n ≡ t
 since_ends s t n lt =
     let a = t + (n - s % n) in
-    let rest : s % n < n = mod-lt s n (omega (arith, lt)) in
+    let rest : s % n < n = mod-lt s (positive t n lt) in
     let whole = div-add-mod' a n in
     let start = div-add-mod' s n in
     let sum : s + a % n + a / n * n ≡ t + (s / n + 1) * n = omega (arith, whole, start, rest) in
@@ -49,7 +52,7 @@ since_ends s t n lt =
 since_least : (s u z turn t n : ℕ) → t < n → s + u + z * n ≡ t + turn * n → (t + (n - s % n)) % n ≤ u
 since_least s u z turn t n lt e =
     let a = t + (n - s % n) in
-    let rest : s % n < n = mod-lt s n (omega (arith, lt)) in
+    let rest : s % n < n = mod-lt s (positive t n lt) in
     let start = div-add-mod' s n in
     let sum : u + (z + s / n + 1) * n ≡ a + turn * n = omega (arith, start, rest, e) in
     let same : u % n ≡ a % n =

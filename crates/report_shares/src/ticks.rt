@@ -1,5 +1,5 @@
 // What a hoist does at each tick of the period.
-ghost use Rattle.std.specs.Prelude.{◌≡◌, ◌+◌, ◌*◌, ◌<◌, ◌≤◌, length};
+ghost use Rattle.std.specs.Prelude.{◌≡◌, ◌+◌, ◌*◌, ◌<◌, ◌≤◌, ◌&&◌, not, cond, length};
 ghost use Rattle.hoist_base.specs.LineData.{IsMove};
 ghost use Rattle.timetable.specs.TimetableData.{timetable_of, FitsLine};
 ghost use Rattle.report_shares.specs.Ticks as ticks;
@@ -56,6 +56,24 @@ fn changes(t: &Timetable, h: u32, tick: u32) -> bool
     t.position(h, tick as u64) != t.position(h, tick as u64 + 1)
 }
 
+/// The ticks of each kind with one more: that of a hoist which carries or not, and whose position changes or not.
+fn with_tick(share: Share, carries: bool, changes: bool) -> Share
+    requires { share.carrying + share.driving + share.standing < 20000 }
+    ensures carrying { result.carrying ≡ share.carrying + cond carries 1 0 }
+    ensures driving { result.driving ≡ share.driving + cond (not carries && changes) 1 0 }
+    ensures standing { result.standing ≡ share.standing + cond (not carries && not changes) 1 0 }
+{
+    let mut more = share;
+    if carries {
+        more.carrying += 1;
+    } else if changes {
+        more.driving += 1;
+    } else {
+        more.standing += 1;
+    }
+    more
+}
+
 /// How many ticks of a period a hoist carries, drives without a load, and stands.
 pub(crate) fn share_of(line: &Line, t: &Timetable, h: u32) -> Share
     requires fits { FitsLine line.now t.now }
@@ -71,13 +89,7 @@ pub(crate) fn share_of(line: &Line, t: &Timetable, h: u32) -> Share
         standing: 0,
     };
     for tick in 0..t.period() {
-        if carries(line, t, h, tick) {
-            share.carrying += 1;
-        } else if changes(t, h, tick) {
-            share.driving += 1;
-        } else {
-            share.standing += 1;
-        }
+        share = with_tick(share, carries(line, t, h, tick), changes(t, h, tick));
     }
     share
 }
