@@ -8,7 +8,7 @@ from typing import NamedTuple
 VERSION = "0.1"
 
 # The programs that are built and packed, each the crate of its name. Each has a table in TABLES.
-PROGRAMS = ("hoist", "hoist_prove")
+PROGRAMS = ("hoist", "hoist_prove", "hoist_report")
 
 
 class Option(NamedTuple):
