@@ -38,6 +38,5 @@ periods_text Nothing = codes ", which no period has room for"
 -- the sums of a walk and the periods that follow
 abbrev pub sums_text : Sums → List ℕ
 sums_text s =
-    codes "the walk takes "
-    ++ (signed_decimal s.w
-    ++ (codes " ticks in " ++ (signed_decimal (neg_ℤ s.q) ++ (codes " periods" ++ periods_text (periods_of s)))))
+    codes "ticks of the walk: "
+    ++ (signed_decimal s.w ++ (codes ", periods: " ++ (signed_decimal (neg_ℤ s.q) ++ periods_text (periods_of s))))

@@ -23,5 +23,5 @@ abbrev pub carrier_text : ℕ → List ℕ
 carrier_text c = codes "carrier " ++ decimal c
 
 -- so many periods later
-abbrev pub later_text : ℤ → List ℕ
-later_text q = codes ", " ++ (signed_decimal q ++ codes " periods later")
+unfoldable pub later_text : ℤ → List ℕ
+later_text q = codes ", periods later: " ++ signed_decimal q

@@ -47,6 +47,6 @@ abbrev pub blank_table : Form
 blank_table = holding (having (fresh tags.Table) keys.Class (codes "walk")) head_row
 
 -- a closed walk of constraints of the path
-abbrev pub walk_table : LineData → List Decision → List Constraint → Form
+unfoldable pub walk_table : LineData → List Decision → List Constraint → Form
 walk_table l path walk =
     holding (holding_all blank_table (map (step_row l path) walk)) (sums_row (sums_of l path walk))

@@ -55,16 +55,15 @@ fn push_periods(text: &mut Vec<u8>, left: Periods) -> Result<(), AllocError>
     }
 }
 
-/// The sums of a closed walk in words, and the periods that follow from them: "the walk takes 620 ticks in 2 periods,
+/// The sums of a closed walk in words, and the periods that follow from them: "ticks of the walk: 620, periods: 2,
 /// so the period is at least 310".
 pub fn sums_words(alloc: Global, sums: Sums) -> Result<Vec<u8>, AllocError>
     requires { AreSmall sums }
     ensures { IfOk result (λ text. text.items ≡ periods.sums_text sums) }
 {
     let mut text = Vec::new(alloc);
-    push_word_signed(&mut text, b"the walk takes ", sums.w)?;
-    push_word_signed(&mut text, b" ticks in ", -sums.q)?;
-    text.extend_from_slice(b" periods")?;
+    push_word_signed(&mut text, b"ticks of the walk: ", sums.w)?;
+    push_word_signed(&mut text, b", periods: ", -sums.q)?;
     push_periods(&mut text, periods_of(sums))?;
     Ok(text)
 }

@@ -73,10 +73,10 @@ pub(crate) fn push_carrier(text: &mut Vec<u8>, carrier: u32) -> Result<(), Alloc
     push_word_number(text, b"carrier ", carrier as u64)
 }
 
+#[tactic(auto, unfolding(crate::specs::Places::later_text))]
 /// Writes that it is so many periods later.
 pub(crate) fn push_later(text: &mut Vec<u8>, q: i64) -> Result<(), AllocError>
     ensures { OnOk result (text.new.items ≡ text.old.items ++ places.later_text q) }
 {
-    push_word_signed(text, b", ", q)?;
-    text.extend_from_slice(b" periods later")
+    push_word_signed(text, b", periods later: ", q)
 }

@@ -3,9 +3,9 @@ use crate::{Periods, periods_of, sums_words};
 use cycle_walk::Sums;
 use std::test::Fail;
 
-const LEAST: &[u8] = b"the walk takes 621 ticks in 2 periods, so the period is at least 311";
+const LEAST: &[u8] = b"ticks of the walk: 621, periods: 2, so the period is at least 311";
 
-const MOST: &[u8] = b"the walk takes -10 ticks in -3 periods, so the period is at most 3";
+const MOST: &[u8] = b"ticks of the walk: -10, periods: -3, so the period is at most 3";
 
 #[test]
 fn periods_that_sums_leave(rt: HostRuntime) -> Result<(), Fail> {

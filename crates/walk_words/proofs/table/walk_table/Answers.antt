@@ -12,6 +12,7 @@ pub sums_of-requires-clause-named : goal.sums_of-requires-clause-named
 sums_of-requires-clause-named c = closed_named c.args.line.now c.args.path.now c.args.walk.now c.requires.closed
 
 pub returns : goal.returns
+unfolding walk_table
 returns c =
     let l = c.args.line.now in
     let path = c.args.path.now in
