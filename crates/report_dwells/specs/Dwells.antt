@@ -35,7 +35,8 @@ windowed row c ticks least most =
 abbrev pub marked : Form → ℕ → ℕ → ℕ → Option ℕ → Form
 marked row c ticks least most =
     windowed
-    (holding (having row keys.Class (end_class (ticks == least) (is_greatest ticks most))) (dwell_cell ticks least most))
+    (holding (having row keys.Class (end_class (ticks == least) (is_greatest ticks most)))
+    (dwell_cell ticks least most))
     c ticks least most
 
 -- the row of a visit
@@ -59,7 +60,8 @@ row_at l p i = visit_row l p (visit_at l i).carrier (visit_at l i).stage
 
 -- the names of the columns, and a row for each visit, by carrier and stage
 abbrev pub table : LineData → Timetable → Form
-table l p = holding_all (holding (fresh tags.Table) (with_heads (fresh tags.Row))) (map (row_at l p) (range_with_len 0 (visit_count l)))
+table l p = holding_all (holding (fresh tags.Table) (with_heads (fresh tags.Row)))
+    (map (row_at l p) (range_with_len 0 (visit_count l)))
 
 -- the dwells in ticks beside their windows
 abbrev pub dwells : LineData → Timetable → Form

@@ -1,5 +1,25 @@
 -- Where a dwell lies in its window, from the least to the greatest ticks of its stage.
-use Rattle.std.specs.Prelude.{ℕ, ◌-◌, ◌*◌, ◌/◌, ◌==◌, ◌++◌, if◌then◌else◌, nat_le, min, Bool, true, false, List, [], codes, decimal, Option, Some, None}
+use Rattle.std.specs.Prelude.{
+  ℕ,
+  ◌-◌,
+  ◌*◌,
+  ◌/◌,
+  ◌==◌,
+  ◌++◌,
+  if◌then◌else◌,
+  nat_le,
+  min,
+  Bool,
+  true,
+  false,
+  List,
+  [],
+  codes,
+  decimal,
+  Option,
+  Some,
+  None,
+}
 use Rattle.markup.specs.declared.words.Key.TheVariants as keys
 use Rattle.markup.specs.Forms.{Form, having, holding}
 use Rattle.timeway.specs.Shapes.{straight, carrier_class}

@@ -45,7 +45,8 @@ head p =
 
 -- a body that holds what the page is of alone
 unfoldable pub opening : LineData → Timetable → Form
-opening l p = holding (holding (fresh tags.Body) (said tags.Heading (title_words p))) (said tags.Paragraph (line_words l))
+opening l p = holding (holding (fresh tags.Body) (said tags.Heading (title_words p)))
+    (said tags.Paragraph (line_words l))
 
 -- the body with the dwells and the shares behind what it holds
 unfoldable pub with_tables : LineData → Timetable → Form → Form

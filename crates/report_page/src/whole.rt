@@ -20,8 +20,8 @@ use std::alloc::{AllocError, Global};
 use text_writing::push_word_number;
 use timetable::Timetable;
 
-/// The page of an answer that keeps the rules and of its timetable, which fits the line. Every number on it is that of the answer
-/// and every name is escaped. An error comes where memory runs out alone.
+/// The page of an answer that keeps the rules and of its timetable, which fits the line. Every number on it is that of
+/// the answer and every name is escaped. An error comes where memory runs out alone.
 pub fn page(
     alloc: Global,
     line: &Line,

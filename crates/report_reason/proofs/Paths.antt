@@ -1,5 +1,31 @@
 -- The paths of a tree that proves its bound fit the line, and its walks can be summed.
-use Rattle.std.proofs.Common.{◌≡◌, ℕ, zero, suc, ◌+◌, ◌<◌, List, [], ◌∷◌, ◌++◌, length, get_or, take, map, Bool, Option, Some, None, refl, sym, ap, ◌∙◌, subst, append_assoc, arith}
+use Rattle.std.proofs.Common.{
+  ◌≡◌,
+  ℕ,
+  zero,
+  suc,
+  ◌+◌,
+  ◌<◌,
+  List,
+  [],
+  ◌∷◌,
+  ◌++◌,
+  length,
+  get_or,
+  take,
+  map,
+  Bool,
+  Option,
+  Some,
+  None,
+  refl,
+  sym,
+  ap,
+  ◌∙◌,
+  subst,
+  append_assoc,
+  arith,
+}
 use Rattle.std.specs.Prelude.{option_to_list, Contains, All}
 use Rattle.std.specs.List.{flat_map}
 use Rattle.std.proofs.lemmas.List.{append-nil, get_or_default, take_more, map-append}
@@ -29,7 +55,8 @@ use Rattle.report_reason.specs.Nearest.{IsUsable}
 
 -- ---- paths
 
-fits_along : (l : LineData) (nodes : List Node) (bound i j : ℕ) (front ds : List Decision) → IsTree nodes → Proves l nodes bound → FitsPath l front
+fits_along : (l : LineData) (nodes : List Node) (bound i j : ℕ) (front ds : List Decision) → IsTree nodes
+    → Proves l nodes bound → FitsPath l front
     → IsPathTo nodes i front → Leads nodes i ds j → FitsPath l (front ++ ds)
 fits_along l nodes bound i j front [] tree proves fits lead rest = subst (FitsPath l) (sym (append-nil front)) fits
 fits_along l nodes bound i j front (d ∷ ds) tree proves fits lead (k, b, rest) =
@@ -38,15 +65,18 @@ fits_along l nodes bound i j front (d ∷ ds) tree proves fits lead (k, b, rest)
     let whole : IsWholeSplit l front d.question b.children = subst (λ node. Shows l front node bound) b.split shows in
     let fit : FitsDecision l front d = record { question = whole.fits; child = omega (arith, b.there, whole.count) } in
     subst (FitsPath l) (append_assoc front (d ∷ []) ds)
-    (fits_along l nodes bound k j (front ++ d ∷ []) ds tree proves (fits_more l front d fits fit) (leads_on nodes 0 i k front d lead b) rest)
+    (fits_along l nodes bound k j (front ++ d ∷ []) ds tree proves (fits_more l front d fits fit)
+    (leads_on nodes 0 i k front d lead b) rest)
 
 -- the path to each node fits the line
-pub fits_path : (l : LineData) (nodes : List Node) (bound i : ℕ) (path : List Decision) → IsTree nodes → Proves l nodes bound → IsPathTo nodes i path
+pub fits_path : (l : LineData) (nodes : List Node) (bound i : ℕ) (path : List Decision) → IsTree nodes
+    → Proves l nodes bound → IsPathTo nodes i path
     → FitsPath l path
 fits_path l nodes bound i path tree proves lead =
     fits_along l nodes bound 0 i [] path tree proves (λ k lt. absurd (omega (arith, lt))) refl lead
 
-answer_of : (l : LineData) (front : List Decision) (question : Question) (child : ℕ) → Stands l front question → child < child_count l front question
+answer_of : (l : LineData) (front : List Decision) (question : Question) (child : ℕ) → Stands l front question
+    → child < child_count l front question
     → IsAnswer l question child
 answer_of l front (Assign m) child stands lt = stands.move
 answer_of l front (TankOrder a b q) child stands lt = tt
@@ -54,7 +84,8 @@ answer_of l front (HoistOrder a b q) child stands lt = tt
 answer_of l front (Choose v) child stands lt = (stands.visit.1, lt)
 
 -- a decision of a path that fits is an answer to its question
-pub answers : (l : LineData) (path : List Decision) (i : ℕ) (d : Decision) → FitsPath l path → i < length path → d ≡ decision_at path i
+pub answers : (l : LineData) (path : List Decision) (i : ℕ) (d : Decision) → FitsPath l path → i < length path
+    → d ≡ decision_at path i
     → IsAnswer l d.question d.child
 answers l path i d fits lt is =
     let fit = fits i lt in
@@ -66,7 +97,8 @@ answers l path i d fits lt is =
 pub one_there : (walk : List Constraint) → Contains (option_to_list (Some walk)) walk
 one_there walk = (0, omega arith, refl)
 
-usable : (l : LineData) (path : List Decision) (o : Option (List Constraint)) → ((walk : List Constraint) → o ≡ Some walk → IsClosedWalk l path walk)
+usable : (l : LineData) (path : List Decision) (o : Option (List Constraint))
+    → ((walk : List Constraint) → o ≡ Some walk → IsClosedWalk l path walk)
     → IsWalkOr o → IsUsable l path o
 usable l path None closed text = tt
 usable l path (Some walk) closed text = (closed walk refl, text)
@@ -95,16 +127,19 @@ high_text single low None text = tt
 high_text single None (Some walk) text = text
 high_text single (Some walk) (Some other) text = text.1
 
-pub usable_low : (l : LineData) (path : List Decision) (node : Node) (bound : ℕ) (single : Bool) → Shows l path node bound → IsNodeText single node
+pub usable_low : (l : LineData) (path : List Decision) (node : Node) (bound : ℕ) (single : Bool)
+    → Shows l path node bound → IsNodeText single node
     → IsUsable l path (low_of node)
 usable_low l path (Split question children) bound single shows text = tt
 usable_low l path (Closed low high) bound single shows text =
     usable l path low (λ walk is. shows.closed walk (low_there low high walk is)) (low_text single low high text)
 usable_low l path (Stuck m) bound single shows text = tt
 usable_low l path (Solved low) bound single shows text = (shows.closed low (one_there low), text)
-usable_low l path (Left low) bound single shows text = usable l path low (λ walk is. shows.closed walk (here low walk is)) text
+usable_low l path (Left low) bound single shows text = usable l path low
+    (λ walk is. shows.closed walk (here low walk is)) text
 
-pub usable_high : (l : LineData) (path : List Decision) (node : Node) (bound : ℕ) (single : Bool) → Shows l path node bound → IsNodeText single node
+pub usable_high : (l : LineData) (path : List Decision) (node : Node) (bound : ℕ) (single : Bool)
+    → Shows l path node bound → IsNodeText single node
     → IsUsable l path (high_of node)
 usable_high l path (Split question children) bound single shows text = tt
 usable_high l path (Closed low high) bound single shows text =
@@ -114,19 +149,22 @@ usable_high l path (Solved low) bound single shows text = tt
 usable_high l path (Left low) bound single shows text = tt
 
 -- the constraints of a closed walk are on the path
-along : (l : LineData) (path : List Decision) (i j : ℕ) (walk : List Constraint) → Walks l path i walk j → All (IsConstraint l path) walk
+along : (l : LineData) (path : List Decision) (i j : ℕ) (walk : List Constraint) → Walks l path i walk j
+    → All (IsConstraint l path) walk
 along l path i j [] walks k d lt = absurd (omega (arith, lt))
 along l path i j (t ∷ ts) walks zero d lt = walks.0
 along l path i j (t ∷ ts) walks (suc k) d lt = along l path (arc_of l path t).to j ts walks.2 k d (omega (arith, lt))
 
-pub closed_named : (l : LineData) (path : List Decision) (walk : List Constraint) → IsClosedWalk l path walk → All (IsConstraint l path) walk
+pub closed_named : (l : LineData) (path : List Decision) (walk : List Constraint) → IsClosedWalk l path walk
+    → All (IsConstraint l path) walk
 closed_named l path [] closed = absurd closed
 closed_named l path (t ∷ ts) closed = along l path (arc_of l path t).from (arc_of l path t).from (t ∷ ts) closed
 
 -- ---- tanks and lists
 
 -- a tank of a stage's list is one of the line
-pub tank_there : (l : LineData) (k n i : ℕ) → IsLine l → n < length (stage l k).tanks → i ≡ get_or (stage l k).tanks n 0 → i < length l.tanks
+pub tank_there : (l : LineData) (k n i : ℕ) → IsLine l → n < length (stage l k).tanks → i ≡ get_or (stage l k).tanks n 0
+    → i < length l.tanks
 tank_there l k n i valid lt is =
     valid.stages.there k i (n, lt, get_or_default (stage l k).tanks n i 0 lt ∙ sym is)
 
@@ -136,7 +174,8 @@ holds_start f g xs = ap (λ (text : List ℕ). record f { inside = text }) (sym 
 
 -- one element more
 pub holds_next : {A : Type 0} (f old new e : Form) (g : A → Form) (xs : List A) (i : ℕ) (d : A) → i < length xs
-    → old ≡ holding_all f (map g (take i xs)) → e ≡ g (get_or xs i d) → new ≡ holding old e → new ≡ holding_all f (map g (take (i + 1) xs))
+    → old ≡ holding_all f (map g (take i xs)) → e ≡ g (get_or xs i d) → new ≡ holding old e
+    → new ≡ holding_all f (map g (take (i + 1) xs))
 unfolding holding holding_all
 holds_next {A} f old new e g xs i d lt before is after =
     let first = map g (take i xs) in

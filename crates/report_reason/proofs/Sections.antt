@@ -1,5 +1,30 @@
 -- The section of a node, and the nodes one after another.
-use Rattle.std.proofs.Common.{⊎_elim, inl, inr, ◌≡◌, ℕ, ◌+◌, ◌<◌, ◌≤◌, List, length, get_or, Option, Some, None, option_map, Result, Ok, Err, refl, sym, ap, subst, ◌∙◌, arith}
+use Rattle.std.proofs.Common.{
+  ⊎_elim,
+  inl,
+  inr,
+  ◌≡◌,
+  ℕ,
+  ◌+◌,
+  ◌<◌,
+  ◌≤◌,
+  List,
+  length,
+  get_or,
+  Option,
+  Some,
+  None,
+  option_map,
+  Result,
+  Ok,
+  Err,
+  refl,
+  sym,
+  ap,
+  subst,
+  ◌∙◌,
+  arith,
+}
 use Rattle.std.specs.Prelude.{IfOk}
 use Rattle.std.proofs.lemmas.Bool.{cases_lt}
 use Rattle.std.proofs.lemmas.List.{get_or_default}
@@ -26,7 +51,8 @@ use Rattle.report_reason.specs.Reason.{branch_section, none_section, IsSectionAt
 use Rattle.report_reason.proofs.Paths.{fits_path, usable_low, usable_high}
 
 -- what is known of a node that is looked at
-pub at_node : (l : LineData) (a : Answer) (i : ℕ) (items slice : List Decision) (node : Node) → IsTree a.tree → IsWritable l a → KeepsRules l a
+pub at_node : (l : LineData) (a : Answer) (i : ℕ) (items slice : List Decision) (node : Node) → IsTree a.tree
+    → IsWritable l a → KeepsRules l a
     → i < length a.tree → IsPathTo a.tree i items → slice ≡ items → node ≡ node_at a.tree i
     → FitsPath l slice × IsUsable l slice (low_of node) × IsUsable l slice (high_of node)
 at_node l a i items slice node tree text kept there lead same read =
@@ -43,19 +69,32 @@ abbrev pub NoneBefore : LineData → Answer → ℕ → Type 0
 NoneBefore l a n = (m : ℕ) (path : List Decision) (walk : List Constraint) → m < n → Sets l a m path walk → ⊥
 
 -- the number that is read from the order is that of a node
-pub read_there : (nodes : List Node) (order : List ℕ) (n i : ℕ) → IsTree nodes → order ≡ preorder nodes → n < length order → i ≡ get_or order n i
+pub read_there : (nodes : List Node) (order : List ℕ) (n i : ℕ) → IsTree nodes → order ≡ preorder nodes
+    → n < length order → i ≡ get_or order n i
     → (n < length (preorder nodes)) × (number_at nodes n ≡ i) × (i < length nodes)
 read_there nodes order n i tree is lt read =
     let there : n < length (preorder nodes) = omega (arith, lt, ap (λ (xs : List ℕ). length xs) is) in
-    let at : i ≡ get_or (preorder nodes) n 0 = read ∙ ap (λ (xs : List ℕ). get_or xs n i) is ∙ get_or_default (preorder nodes) n i 0 there in
-    (there, sym at, omega (arith, at, All-get_or (λ j. j < length nodes) (preorder nodes) n 0 there (preorder_there nodes tree)))
+    let at : i ≡ get_or (preorder nodes) n 0 = read ∙ ap (λ (xs : List ℕ). get_or xs n i) is ∙ get_or_default
+    (preorder nodes) n i 0 there in (
+      there,
+      sym at,
+      omega (
+        arith,
+        at,
+        All-get_or (λ j. j < length nodes) (preorder nodes) n 0 there
+            (preorder_there nodes tree),
+      ),
+    )
 
 -- the section of the first node that sets the bound is the reason
-pub section_shown : (l : LineData) (a : Answer) (n i : ℕ) (e : Form) → n < length (preorder a.tree) → number_at a.tree n ≡ i → NoneBefore l a n
+pub section_shown : (l : LineData) (a : Answer) (n i : ℕ) (e : Form) → n < length (preorder a.tree)
+    → number_at a.tree n ≡ i → NoneBefore l a n
     → IsSectionAt l a i (Some e) → IsReason l a e
-section_shown l a n i e there at before (path, lead, is) = by_walk (setting_walk l path a.bound (node_at a.tree i)) refl is
+section_shown l a n i e there at before (path, lead, is) = by_walk
+    (setting_walk l path a.bound (node_at a.tree i)) refl is
   where
-    by_walk : (o : Option (List Constraint)) → setting_walk l path a.bound (node_at a.tree i) ≡ o → Some e ≡ option_map (branch_section l a.bound path) o
+    by_walk : (o : Option (List Constraint)) → setting_walk l path a.bound (node_at a.tree i) ≡ o
+        → Some e ≡ option_map (branch_section l a.bound path) o
         → IsReason l a e
     by_walk None set form = cc
     by_walk (Some walk) set form =
@@ -73,7 +112,8 @@ section_shown l a n i e there at before (path, lead, is) = by_walk (setting_walk
         })
 
 -- a node without a section sets no bound
-pub none_next : (l : LineData) (a : Answer) (n i : ℕ) → IsTree a.tree → number_at a.tree n ≡ i → NoneBefore l a n → IsSectionAt l a i None
+pub none_next : (l : LineData) (a : Answer) (n i : ℕ) → IsTree a.tree → number_at a.tree n ≡ i → NoneBefore l a n
+    → IsSectionAt l a i None
     → NoneBefore l a (n + 1)
 none_next l a n i tree at before (path, lead, is) m way walk lt sets =
     ⊎_elim
@@ -81,7 +121,8 @@ none_next l a n i tree at before (path, lead, is) m way walk lt sets =
     (λ ge.
     let same : m ≡ n = omega (arith, lt, ge) in
     let node : sets.node ≡ i = sym sets.stands.is ∙ ap (number_at a.tree) same ∙ at in
-    let ways : way ≡ path = one_path a.tree i way path tree (subst (λ k. IsPathTo a.tree k way) node sets.stands.leads) lead in
+    let ways : way ≡ path = one_path a.tree i way path tree
+    (subst (λ k. IsPathTo a.tree k way) node sets.stands.leads) lead in
     let set : setting_walk l path a.bound (node_at a.tree i) ≡ Some walk =
     ap (λ ds. setting_walk l ds a.bound (node_at a.tree i)) (sym ways)
     ∙ ap (λ k. setting_walk l way a.bound (node_at a.tree k)) (sym node)
@@ -96,7 +137,8 @@ none_next l a n i tree at before (path, lead, is) m way walk lt sets =
 pub none_all : (l : LineData) (a : Answer) (n : ℕ) → length (preorder a.tree) ≤ n → NoneBefore l a n → NoneSets l a
 none_all l a n all before m path walk sets = before m path walk (omega (arith, all, sets.stands.there)) sets
 
-pub none_shown : {E : Type 0} (l : LineData) (a : Answer) (r : Result Form E) → NoneSets l a → IfOk r (λ e. e ≡ none_section a.bound)
+pub none_shown : {E : Type 0} (l : LineData) (a : Answer) (r : Result Form E) → NoneSets l a
+    → IfOk r (λ e. e ≡ none_section a.bound)
     → IfOk r (λ e. IsReason l a e)
 none_shown l a (Ok e) none is = inr (none, is)
 none_shown l a (Err e) none is = tt

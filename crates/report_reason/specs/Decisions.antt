@@ -1,5 +1,25 @@
 -- The decisions of a path in words.
-use Rattle.std.specs.Prelude.{ℕ, ◌+◌, ◌<◌, ◌==◌, if◌then◌else◌, List, [], ◌++◌, codes, decimal, get_or, length, map, Option, Some, None, ℤ, pos, negsuc}
+use Rattle.std.specs.Prelude.{
+  ℕ,
+  ◌+◌,
+  ◌<◌,
+  ◌==◌,
+  if◌then◌else◌,
+  List,
+  [],
+  ◌++◌,
+  codes,
+  decimal,
+  get_or,
+  length,
+  map,
+  Option,
+  Some,
+  None,
+  ℤ,
+  pos,
+  negsuc,
+}
 use Rattle.hoist_base.specs.LineData.{LineData, stage, tank, IsMove, IsStageOf}
 use Rattle.hoist_base.specs.declared.ids.MoveId.{MoveId}
 use Rattle.hoist_base.specs.declared.ids.VisitId.{VisitId}

@@ -22,8 +22,9 @@ use Rattle.report_reason.specs.Reason.{IsReason}
 -- an answer has one reason
 abbrev pub OneReason : Type 0
 OneReason = (l : LineData) (a : Answer) (e f : Form) → IsTree a.tree → IsReason l a e → IsReason l a f → e ≡ f
+    -- the walk of a leaf of an answer that keeps the rules: it is closed and refutes all periods below the bound,
+    and no walk of
 
--- the walk of a leaf of an answer that keeps the rules: it is closed and refutes all periods below the bound, and no walk of
 -- its leaf refutes the bound
 pub record IsShown (l : LineData) (a : Answer) (path : List Decision) (node : ℕ) (walk : List Constraint) : Type 0 where
   pub walks : HasWalks (node_at a.tree node)
@@ -47,7 +48,8 @@ IsShut l path (Left low) period = IsOpen l path (Left low) period → ⊥
 -- where no node sets a bound of two ticks or more, each leaf of an answer that keeps the rules refutes it too
 abbrev pub NoneIsProof : Type 0
 NoneIsProof =
-    (l : LineData) (a : Answer) (i : ℕ) (path : List Decision) → IsTree a.tree → KeepsRules l a → 2 ≤ a.bound → NoneSets l a
+    (l : LineData) (a : Answer) (i : ℕ) (path : List Decision) → IsTree a.tree → KeepsRules l a → 2 ≤ a.bound
+    → NoneSets l a
     → i < length a.tree → IsPathTo a.tree i path → IsLeaf (node_at a.tree i) → IsShut l path (node_at a.tree i) a.bound
 
 -- an optimal answer of two ticks or more has a branch that is shown

@@ -1,5 +1,26 @@
 -- Ticks of each kind, counted.
-use Rattle.std.proofs.Common.{◌≡◌, refl, ℕ, ◌+◌, ◌&&◌, Bool, true, false, not, cond, List, [], ◌∷◌, ◌++◌, length, map, sym, ap, ◌∙◌, arith}
+use Rattle.std.proofs.Common.{
+  ◌≡◌,
+  refl,
+  ℕ,
+  ◌+◌,
+  ◌&&◌,
+  Bool,
+  true,
+  false,
+  not,
+  cond,
+  List,
+  [],
+  ◌∷◌,
+  ◌++◌,
+  length,
+  map,
+  sym,
+  ap,
+  ◌∙◌,
+  arith,
+}
 use Rattle.std.specs.List.{count_by, list_any, range_with_len}
 use Rattle.std.proofs.lemmas.List.{map-id}
 use Rattle.std.proofs.lemmas.List.Folds.{list_any-append}
@@ -31,14 +52,17 @@ pub shares_add : SharesAddUp
 shares_add l p h = adds (carries l p h) (changes p h) (range_with_len 0 p.period) ∙ length-range_with_len 0 p.period
 
 range_more : (n : ℕ) → range_with_len 0 (n + 1) ≡ range_with_len 0 n ++ n ∷ []
-range_more n = sym (map-id (range_with_len 0 (n + 1))) ∙ map-range_with_len_more (λ (x : ℕ). x) 0 n n (omega arith) ∙ ap (λ xs. xs ++ n ∷ []) (map-id (range_with_len 0 n))
+range_more n = sym (map-id (range_with_len 0 (n + 1))) ∙ map-range_with_len_more (λ (x : ℕ). x) 0 n n (omega arith) ∙ ap
+    (λ xs. xs ++ n ∷ []) (map-id (range_with_len 0 n))
 
 -- a number more is counted or not
-pub count_more : (test : ℕ → Bool) (n : ℕ) → count_by test (range_with_len 0 (n + 1)) ≡ count_by test (range_with_len 0 n) + cond (test n) 1 0
+pub count_more : (test : ℕ → Bool) (n : ℕ)
+    → count_by test (range_with_len 0 (n + 1)) ≡ count_by test (range_with_len 0 n) + cond (test n) 1 0
 count_more test n =
     ap (count_by test) (range_more n) ∙ sum_by_push (λ y. cond (test y) 1 0) (range_with_len 0 n) n
 
 -- no number is of the kind where the next one isn't either
-pub none_more : (test : ℕ → Bool) (n : ℕ) → list_any test (range_with_len 0 n) ≡ false → test n ≡ false → list_any test (range_with_len 0 (n + 1)) ≡ false
+pub none_more : (test : ℕ → Bool) (n : ℕ) → list_any test (range_with_len 0 n) ≡ false → test n ≡ false
+    → list_any test (range_with_len 0 (n + 1)) ≡ false
 none_more test n before next =
     ap (list_any test) (range_more n) ∙ list_any-append test (range_with_len 0 n) (n ∷ []) ∙ grind (arith, before, next)

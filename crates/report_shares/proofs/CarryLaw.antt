@@ -1,5 +1,27 @@
 -- The test of a tick at which a hoist carries tells it.
-use Rattle.std.proofs.Common.{◌≡◌, ℕ, ◌+◌, ◌-◌, ◌*◌, ◌/◌, ◌%◌, ◌<◌, ◌≤◌, zero, ◌==◌, ◌&&◌, nat_lt, Bool, true, get_or, sym, ap, ◌∙◌, mod-eq_of_lt, arith}
+use Rattle.std.proofs.Common.{
+  ◌≡◌,
+  ℕ,
+  ◌+◌,
+  ◌-◌,
+  ◌*◌,
+  ◌/◌,
+  ◌%◌,
+  ◌<◌,
+  ◌≤◌,
+  zero,
+  ◌==◌,
+  ◌&&◌,
+  nat_lt,
+  Bool,
+  true,
+  get_or,
+  sym,
+  ap,
+  ◌∙◌,
+  mod-eq_of_lt,
+  arith,
+}
 use Rattle.std.specs.List.{range_with_len, list_any}
 use Rattle.std.proofs.Math.Nat.{add-mul-mod_self_right, mod-le, mod-lt}
 use Rattle.std.proofs.lemmas.Bool.Decides.{nat_tests}
@@ -46,7 +68,8 @@ since_ends s t n lt =
     let whole = div-add-mod' a n in
     let start = div-add-mod' s n in
     let sum : s + a % n + a / n * n ≡ t + (s / n + 1) * n = omega (arith, whole, start, rest) in
-    sym (add-mul-mod_self_right (s + a % n) (a / n) n) ∙ ap (λ x. x % n) sum ∙ add-mul-mod_self_right t (s / n + 1) n ∙ mod-eq_of_lt lt
+    sym (add-mul-mod_self_right (s + a % n) (a / n) n) ∙ ap (λ x. x % n) sum ∙ add-mul-mod_self_right t
+    (s / n + 1) n ∙ mod-eq_of_lt lt
 
 -- no other ticks after a start end at the tick that are fewer
 since_least : (s u z turn t n : ℕ) → t < n → s + u + z * n ≡ t + turn * n → (t + (n - s % n)) % n ≤ u
@@ -60,7 +83,8 @@ since_least s u z turn t n lt e =
     omega (arith, same, mod-le u n)
 
 -- it carries where the test is true
-from_test : (l : LineData) (p : Timetable) (h t : ℕ) → IsLine l → t < p.period → carries l p h t ≡ true → Carries l p h t
+from_test : (l : LineData) (p : Timetable) (h t : ℕ) → IsLine l → t < p.period → carries l p h t ≡ true
+    → Carries l p h t
 from_test l p h t line there test =
     let (i, below, by) = some_below (move_count l) (carries_at l p h t) test in
     let c = (move_at l i).carrier in
@@ -81,7 +105,8 @@ from_test l p h t line there test =
     )
 
 -- the number of a move names it
-named : (l : LineData) (c k : ℕ) → k < last_stage l → ((move_at l (move_number l c k)).carrier ≡ c) × ((move_at l (move_number l c k)).step ≡ k)
+named : (l : LineData) (c k : ℕ) → k < last_stage l → ((move_at l (move_number l c k)).carrier ≡ c)
+    × ((move_at l (move_number l c k)).step ≡ k)
 named l c k lt = (div-mul-add c (last_stage l) k lt, mod-mul-add c (last_stage l) k lt)
 
 -- and only there
@@ -95,7 +120,8 @@ to_test l p h t there (c, k, z, turn, at) =
     both_hold (p.hoist c k) h (since p c k t) (duration (motion l p c k)) at.hoist (omega (arith, early, least)) in
     let name = named l c k (omega (arith, at.move.1)) in
     some_at (move_count l) (move_number l c k) (carries_at l p h t) (move_below l c k at.move)
-    (ap (λ x. carries_by l p h t x (move_at l (move_number l c k)).step) name.0 ∙ ap (λ y. carries_by l p h t c y) name.1 ∙ by)
+    (ap (λ x. carries_by l p h t x (move_at l (move_number l c k)).step) name.0 ∙ ap
+    (λ y. carries_by l p h t c y) name.1 ∙ by)
 
 pub carrying_told : CarryingIsTold
 carrying_told l p h t line there = (from_test l p h t line there, to_test l p h t there)

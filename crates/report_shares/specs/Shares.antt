@@ -57,7 +57,8 @@ with_heads row =
 -- the names of the columns, and a row for each hoist
 abbrev pub table : LineData → Timetable → Form
 table l p =
-    holding_all (holding (fresh tags.Table) (with_heads (fresh tags.Row))) (map (hoist_row l p) (range_with_len 0 l.hoists))
+    holding_all (holding (fresh tags.Table) (with_heads (fresh tags.Row)))
+    (map (hoist_row l p) (range_with_len 0 l.hoists))
 
 -- the ticks of a period at which each hoist carries, drives without a load and stands
 abbrev pub shares : LineData → Timetable → Form

@@ -13,9 +13,9 @@ use std::alloc::{AllocError, Global};
 use text_writing::{Worded, push_word_number};
 use timetable::{Timetable, arrival, departure};
 
-/// The numbers of an answer and of its timetable, which fits the line, as a section: the period, how many carriers enter
-/// in it and in 1000 ticks, the ticks of each carrier in the line, the verdict, the bound, how many questions show it,
-/// and whether the period is the least or how many ticks it is above the bound.
+/// The numbers of an answer and of its timetable, which fits the line, as a section: the period, how many carriers
+/// enter in it and in 1000 ticks, the ticks of each carrier in the line, the verdict, the bound, how many questions
+/// show it, and whether the period is the least or how many ticks it is above the bound.
 pub fn numbers(
     alloc: Global,
     line: &Line,
@@ -98,12 +98,7 @@ fn with_period(
     let words = rate_words(alloc, degree, period)?;
     let ticks = with_number(alloc, table, b"period", period as u64)?;
     let carriers = with_number(alloc, ticks, b"carriers in a period", degree as u64)?;
-    with_fact(
-        alloc,
-        carriers,
-        b"carriers in 1000 ticks",
-        words.as_slice(),
-    )
+    with_fact(alloc, carriers, b"carriers in 1000 ticks", words.as_slice())
 }
 
 /// A table with the time of each carrier in the line behind what it has.

@@ -15,9 +15,9 @@ use text_writing::push_word_number;
 use timetable::Timetable;
 use timeway::straight;
 
-/// What the hoists of a timetable that fits its line do, as a section: a table with a row for each hoist, with the ticks
-/// of a period at which it carries, drives without a load and stands, each with its percent of the period, and a bar of
-/// the three.
+/// What the hoists of a timetable that fits its line do, as a section: a table with a row for each hoist, with the
+/// ticks of a period at which it carries, drives without a load and stands, each with its percent of the period, and a
+/// bar of the three.
 pub fn shares(alloc: Global, line: &Line, t: &Timetable) -> Result<Element, AllocError>
     requires { FitsLine line.now t.now }
     ensures { IfOk result (λ e. e ≡ rows.shares line.now (timetable_of t.now)) }
@@ -84,12 +84,7 @@ fn share_row(alloc: Global, h: u32, share: Share, period: u32) -> Result<Element
 }
 
 /// A row with ticks of one kind and their part of the period behind what it has.
-fn with_share(
-    alloc: Global,
-    row: Element,
-    ticks: u32,
-    period: u32,
-) -> Result<Element, AllocError>
+fn with_share(alloc: Global, row: Element, ticks: u32, period: u32) -> Result<Element, AllocError>
     requires { 1 ≤ period }
     ensures { IfOk result (λ e. e ≡ rows.with_share row ticks period) }
 {

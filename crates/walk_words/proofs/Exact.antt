@@ -39,7 +39,8 @@ left_exact (negsuc w) (pos q) t =
     let most = most_exact (suc w) q t in
     (λ refutes. most.0 (omega (arith, ints, refutes)), λ no. let more = most.1 no in omega (arith, ints, more))
 
-pub least_exact : (s : Sums) (p t : ℕ) → periods_of s ≡ Least p → (t < p → Refutes s.w s.q t) × (p ≤ t → Refutes s.w s.q t → ⊥)
+pub least_exact : (s : Sums) (p t : ℕ) → periods_of s ≡ Least p → (t < p → Refutes s.w s.q t)
+    × (p ≤ t → Refutes s.w s.q t → ⊥)
 least_exact s p t is =
     let exact = left_exact s.w s.q t in
     let P : Periods → Type 0 = λ left. Refutes s.w s.q t ↔ (IsAmong left t → ⊥) in

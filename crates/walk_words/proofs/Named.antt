@@ -10,9 +10,11 @@ named_along : (l : LineData) (path : List Decision) (i : ℕ) (walk : List Const
     → (k : ℕ) (d : Constraint) → k < length walk → IsConstraint l path (get_or walk k d)
 named_along l path i [] j walks k d lt = absurd (omega (arith, lt))
 named_along l path i (t ∷ ts) j (is, from, rest) zero d lt = is
-named_along l path i (t ∷ ts) j (is, from, rest) (suc k) d lt = named_along l path (arc_of l path t).to ts j rest k d (omega (arith, lt))
+named_along l path i (t ∷ ts) j (is, from, rest) (suc k) d lt = named_along l path (arc_of l path t).to ts j rest k d
+    (omega (arith, lt))
 
 pub closed_named : (l : LineData) (path : List Decision) (walk : List Constraint) → IsClosedWalk l path walk
     → (k : ℕ) (d : Constraint) → k < length walk → IsConstraint l path (get_or walk k d)
 closed_named l path [] closed k d lt = absurd closed
-closed_named l path (t ∷ ts) closed k d lt = named_along l path (arc_of l path t).from (t ∷ ts) (arc_of l path t).from closed k d lt
+closed_named l path (t ∷ ts) closed k d lt = named_along l path (arc_of l path t).from (t ∷ ts)
+    (arc_of l path t).from closed k d lt

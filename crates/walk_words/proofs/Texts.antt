@@ -1,5 +1,32 @@
 -- Texts, one part behind the other.
-use Rattle.std.proofs.Common.{◌≡◌, ℕ, List, [], ◌∷◌, ◌++◌, map, take, length, get_or, ◌+◌, ◌<◌, sym, ap, ◌∙◌, append_assoc, Bool, true, false, cond, if◌then◌else◌, Result, Ok, Err, OnOk, IfOk}
+use Rattle.std.proofs.Common.{
+  ◌≡◌,
+  ℕ,
+  List,
+  [],
+  ◌∷◌,
+  ◌++◌,
+  map,
+  take,
+  length,
+  get_or,
+  ◌+◌,
+  ◌<◌,
+  sym,
+  ap,
+  ◌∙◌,
+  append_assoc,
+  Bool,
+  true,
+  false,
+  cond,
+  if◌then◌else◌,
+  Result,
+  Ok,
+  Err,
+  OnOk,
+  IfOk,
+}
 use Rattle.std.specs.Result.{is_ok}
 use Rattle.std.specs.List.{flat_map}
 use Rattle.std.proofs.lemmas.Bool.{cond-true, cond-false}
@@ -26,7 +53,8 @@ pub grown : (old text first : List ℕ) (rest : List (List ℕ × List ℕ)) →
     → last_text text rest ≡ old ++ parts first rest
 grown old text first [] is grows = is
 grown old text first (s ∷ rest) is (next, grows) =
-    grown text s.0 s.1 rest next grows ∙ ap (λ (xs : List ℕ). xs ++ parts s.1 rest) is ∙ append_assoc old first (parts s.1 rest)
+    grown text s.0 s.1 rest next grows ∙ ap (λ (xs : List ℕ). xs ++ parts s.1 rest) is ∙ append_assoc old first
+    (parts s.1 rest)
 
 -- what stands behind a text where it was written
 pub at_ok : {T E : Type 0} (r : Result T E) (old new part : List ℕ) → new ≡ (if is_ok r then old ++ part else old)
@@ -39,11 +67,13 @@ if_ok_weaker {T = T} {E = E} (Ok x) P Q f h = f x h
 if_ok_weaker {T = T} {E = E} (Err x) P Q f h = tt
 
 -- the part that a test picks
-pub picks_first : (old new x y : List ℕ) (is test : Bool) → is ≡ test → is ≡ true → new ≡ old ++ x → new ≡ old ++ cond test x y
+pub picks_first : (old new x y : List ℕ) (is test : Bool) → is ≡ test → is ≡ true → new ≡ old ++ x
+    → new ≡ old ++ cond test x y
 picks_first old new x y is test value true_there e =
     e ∙ ap (λ (xs : List ℕ). old ++ xs) (sym (cond-true test x y (sym value ∙ true_there)))
 
-pub picks_second : (old new x y : List ℕ) (is test : Bool) → is ≡ test → is ≡ false → new ≡ old ++ y → new ≡ old ++ cond test x y
+pub picks_second : (old new x y : List ℕ) (is test : Bool) → is ≡ test → is ≡ false → new ≡ old ++ y
+    → new ≡ old ++ cond test x y
 picks_second old new x y is test value false_there e =
     e ∙ ap (λ (xs : List ℕ). old ++ xs) (sym (cond-false test x y (sym value ∙ false_there)))
 
@@ -52,7 +82,8 @@ pub holds_none : (f : Form) (g : Constraint → Form) (xs : List Constraint) →
 unfolding holding_all
 holds_none f g xs = ap (λ (ys : List ℕ). record f { inside = ys }) (sym (append-nil f.inside))
 
-pub holds_more : (f old new e : Form) (g : Constraint → Form) (xs : List Constraint) (n : ℕ) (d : Constraint) → n < length xs
+pub holds_more : (f old new e : Form) (g : Constraint → Form) (xs : List Constraint) (n : ℕ) (d : Constraint)
+    → n < length xs
     → old ≡ holding_all f (map g (take n xs)) → e ≡ g (get_or xs n d) → new ≡ holding old e
     → new ≡ holding_all f (map g (take (n + 1) xs))
 unfolding holding holding_all

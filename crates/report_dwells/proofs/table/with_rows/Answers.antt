@@ -12,5 +12,6 @@ pub loop-i-preserved : goal.loop-i-preserved
 loop-i-preserved c =
     holds_more c.args.table c.loop-i.table c.in_ok-table.table c.in_ok-row.row
     (row_at c.args.line.now (timetable_of c.args.t.now)) c.loop-i.i c.loop-i.invariant
-    (c.in_ok-row.ensures ∙ ap (λ (v : VisitId). visit_row c.args.line.now (timetable_of c.args.t.now) v.carrier v.stage) c.visit_at.ensures.value)
+    (c.in_ok-row.ensures ∙ ap (λ (v : VisitId). visit_row c.args.line.now
+    (timetable_of c.args.t.now) v.carrier v.stage) c.visit_at.ensures.value)
     c.in_ok-table.ensures

@@ -13,5 +13,6 @@ loop-i-init c =
 
 pub loop-i-preserved : goal.loop-i-preserved
 loop-i-preserved c =
-    holds_next _ c.loop-i.list c.in_ok-list-2.list c.in_ok-item.item (decision_item c.args.line.now c.args.path.now) c.args.path.now c.loop-i.i
+    holds_next _ c.loop-i.list c.in_ok-list-2.list c.in_ok-item.item
+    (decision_item c.args.line.now c.args.path.now) c.args.path.now c.loop-i.i
     no_decision c.loop-i-test.true c.loop-i.invariant c.in_ok-item.ensures c.in_ok-list-2.ensures

@@ -14,13 +14,17 @@ pub returns-then-carries_by : goal.returns-then-carries_by
 returns-then-carries_by c =
     let test = carries_at c.args.line.now (timetable_of c.args.t.now) c.args.h c.args.tick in
     let here : carries_at c.args.line.now (timetable_of c.args.t.now) c.args.h c.args.tick c.loop-i.i ≡ true =
-    sym (ap (λ (m : MoveId). carries_by c.args.line.now (timetable_of c.args.t.now) c.args.h c.args.tick m.carrier m.step) c.move_at.ensures.value) ∙ sym c.carries_by.ensures ∙ c.if-carries_by.true in
-    sym (some_at (move_count c.args.line.now) c.loop-i.i test (omega (arith, c.loop-i-test.true, c.move_count-i-end.ensures.value)) here)
+    sym (ap (λ (m : MoveId). carries_by c.args.line.now
+    (timetable_of c.args.t.now) c.args.h c.args.tick m.carrier m.step) c.move_at.ensures.value) ∙ sym
+    c.carries_by.ensures ∙ c.if-carries_by.true in
+    sym (some_at (move_count c.args.line.now) c.loop-i.i test
+    (omega (arith, c.loop-i-test.true, c.move_count-i-end.ensures.value)) here)
 
 pub loop-i-preserved : goal.loop-i-preserved
 loop-i-preserved c =
     let test = carries_at c.args.line.now (timetable_of c.args.t.now) c.args.h c.args.tick in
     let here : carries_at c.args.line.now (timetable_of c.args.t.now) c.args.h c.args.tick c.loop-i.i ≡ false =
-    sym (ap (λ (m : MoveId). carries_by c.args.line.now (timetable_of c.args.t.now) c.args.h c.args.tick m.carrier m.step) c.move_at.ensures.value) ∙ sym c.carries_by.ensures ∙ c.if-carries_by.false in
+    sym (ap (λ (m : MoveId). carries_by c.args.line.now
+    (timetable_of c.args.t.now) c.args.h c.args.tick m.carrier m.step) c.move_at.ensures.value) ∙ sym
+    c.carries_by.ensures ∙ c.if-carries_by.false in
     none_more test c.loop-i.i c.loop-i.invariant here
-

@@ -20,6 +20,8 @@ returns c =
     let rows = map (step_row l path) walk in
     let steps : c.in_ok-steps.steps ≡ holding_all blank_table rows =
     c.in_ok-steps.ensures ∙ ap (λ (table : Form). holding_all table rows) c.in_ok-blank.ensures in
-    let last : c.in_ok-last.last ≡ sums_row (sums_of l path walk) = c.in_ok-last.ensures ∙ ap sums_row c.sums_of.ensures.value in
-    if_ok_weaker c.holding.result (λ e. e ≡ holding c.in_ok-steps.steps c.in_ok-last.last) (λ e. e ≡ walk_table l path walk)
+    let last : c.in_ok-last.last
+    ≡ sums_row (sums_of l path walk) = c.in_ok-last.ensures ∙ ap sums_row c.sums_of.ensures.value in
+    if_ok_weaker c.holding.result (λ e. e ≡ holding c.in_ok-steps.steps c.in_ok-last.last)
+    (λ e. e ≡ walk_table l path walk)
     (λ e is. is ∙ (λ i. holding (steps i) (last i))) c.holding.ensures

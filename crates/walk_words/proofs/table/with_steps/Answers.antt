@@ -9,5 +9,7 @@ loop-name-init c = holds_none c.args.table (step_row c.args.line.now c.args.path
 
 pub loop-name-preserved : goal.loop-name-preserved
 loop-name-preserved c =
-    holds_more c.args.table c.loop-name.table c.in_ok-table.table c.in_ok-step.step (step_row c.args.line.now c.args.path.now)
-    c.args.walk.now c.loop-name.name-index (Min 0 0) (search rules) c.loop-name.invariant (search rules) c.in_ok-table.ensures
+    holds_more c.args.table c.loop-name.table c.in_ok-table.table c.in_ok-step.step
+    (step_row c.args.line.now c.args.path.now)
+    c.args.walk.now c.loop-name.name-index (Min 0 0) (search rules) c.loop-name.invariant
+    (search rules) c.in_ok-table.ensures
