@@ -15,9 +15,8 @@ use Rattle.report_words.specs.declared.words.Form.{Form}
 use Rattle.report_words.specs.Request.{AsksReport, AskNoReport}
 use Rattle.report_cli.specs.Drawn.{IsDrawn, IsUndrawn}
 
--- the words ask for the answer of a file to the line of another, the answer is accepted, its timetable is legal,
-    and has the
--- least period where the verdict says so; and the text of both in the form that is asked for was printed
+-- the words ask for the answer of a file to the line of another, the answer is accepted, its timetable is legal, and
+-- has the least period where the verdict says so; and the text of both in the form that is asked for was printed
 pub record IsReported (r : Reading) (words : List (List ℕ)) (old new : Option (List ℕ)) : Type 0 where
   pub form : Form
   pub line : LineData

@@ -85,8 +85,8 @@ in_high node walk is =
     Contains-append_right (option_to_list (low_of node)) (option_to_list (high_of node)) walk
     (subst (λ o. Contains (option_to_list o) walk) (sym is) (one_there walk))
 
--- the walk that sets the bound is one of the leaf's and refutes the period before it,
-    and the leaf leaves the bound open
+-- the walk that sets the bound is one of the leaf's and refutes the period before it, and the leaf leaves the bound
+-- open
 pub record IsSetting (l : LineData) (path : List Decision) (bound : ℕ) (node : Node)
     (walk : List Constraint) : Type 0 where
   pub there : Contains (walks_of node) walk

@@ -22,10 +22,9 @@ use Rattle.report_reason.specs.Reason.{IsReason}
 -- an answer has one reason
 abbrev pub OneReason : Type 0
 OneReason = (l : LineData) (a : Answer) (e f : Form) → IsTree a.tree → IsReason l a e → IsReason l a f → e ≡ f
-    -- the walk of a leaf of an answer that keeps the rules: it is closed and refutes all periods below the bound,
-    and no walk of
 
--- its leaf refutes the bound
+-- the walk of a leaf of an answer that keeps the rules: it is closed and refutes all periods below the bound, and no
+-- walk of its leaf refutes the bound
 pub record IsShown (l : LineData) (a : Answer) (path : List Decision) (node : ℕ) (walk : List Constraint) : Type 0 where
   pub walks : HasWalks (node_at a.tree node)
   pub closed : IsClosedWalk l path walk

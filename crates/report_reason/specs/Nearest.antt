@@ -1,6 +1,5 @@
--- The branch of a tree that comes closest to a faster timetable: its walks refute all periods below the bound,
-    but not the
--- bound itself.
+-- The branch of a tree that comes closest to a faster timetable: its walks refute all periods below the bound, but
+-- not the bound itself.
 use Rattle.std.specs.Prelude.{◌≡◌, ℕ, ◌<◌, ◌-◌, ◌||◌, Bool, false, cond, int_lt, List, Option, Some, None, option_map,
     pos, ◌+ℤ◌, ◌*ℤ◌}
 use Rattle.hoist_base.specs.LineData.{LineData}
@@ -24,9 +23,8 @@ gives_by (Some s) period = int_lt (pos 0) (s.w +ℤ s.q *ℤ pos period)
 abbrev pub gives : LineData → List Decision → ℕ → Option (List Constraint) → Bool
 gives l path period walk = gives_by (option_map (sums_of l path) walk) period
 
--- the walk of a leaf that sets the bound: it refutes the period one tick shorter,
-    and no walk of the leaf refutes the bound;
--- the low one where both do
+-- the walk of a leaf that sets the bound: it refutes the period one tick shorter, and no walk of the leaf refutes
+-- the bound; the low one where both do
 abbrev pub setting_walk : LineData → List Decision → ℕ → Node → Option (List Constraint)
 setting_walk l path bound node =
     cond (gives l path bound (low_of node) || gives l path bound (high_of node)) None
