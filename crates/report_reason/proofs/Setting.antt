@@ -1,6 +1,39 @@
 -- When a walk of a leaf sets the bound.
-use Rattle.std.proofs.Common.{⊎_elim, inl, inr, ◌⊎◌, ◌≡◌, ℕ, zero, suc, ◌-◌, ◌<◌, ◌≤◌, List, [], ◌∷◌, slice_index_or,
-    Bool, true, false, cond, Option, Some, None, ℤ, pos, ◌+ℤ◌, ◌*ℤ◌, ◌<ℤ◌, refl, sym, ap, subst, ◌∙◌, arith}
+use Rattle.std.proofs.Common.{
+  ⊎_elim,
+  inl,
+  inr,
+  ◌⊎◌,
+  ◌≡◌,
+  ℕ,
+  zero,
+  suc,
+  ◌-◌,
+  ◌<◌,
+  ◌≤◌,
+  List,
+  [],
+  ◌∷◌,
+  slice_index_or,
+  Bool,
+  true,
+  false,
+  cond,
+  Option,
+  Some,
+  None,
+  ℤ,
+  pos,
+  ◌+ℤ◌,
+  ◌*ℤ◌,
+  ◌<ℤ◌,
+  refl,
+  sym,
+  ap,
+  subst,
+  ◌∙◌,
+  arith,
+}
 use Rattle.std.specs.Prelude.{◌||◌, option_to_list, Contains}
 use Rattle.std.proofs.lemmas.Int.{ints, by_lt_z}
 use Rattle.std.proofs.lemmas.Bool.{false≢true}
@@ -99,7 +132,7 @@ pub setting : (l : LineData) (path : List Decision) (bound : ℕ) (node : Node) 
 setting l path bound node walk is =
     let (a, b, one) =
     set_is (gives l path bound (low_of node)) (gives l path bound (high_of node))
-        (gives l path (bound - 1) (low_of node))
+    (gives l path (bound - 1) (low_of node))
     (gives l path (bound - 1) (high_of node)) (low_of node) (high_of node) walk is in
     let is_open = open_by l path node bound a b in
     ⊎_elim
@@ -127,7 +160,7 @@ refuted_or_open l path node t =
     by_test (gives l path t (low_of node))
     (λ a. inl (some_low (low_of node) refl a))
     (λ a. by_test (gives l path t (high_of node)) (λ b. inl (some_high (high_of node) refl b))
-        (λ b. inr (a, b, open_by l path node t a b)))
+    (λ b. inr (a, b, open_by l path node t a b)))
   where
     some_low : (o : Option (List Constraint)) → low_of node ≡ o → gives l path t (low_of node) ≡ true
         → (walk : List Constraint) × Contains (walks_of node) walk × RefutesPeriod l path t walk
@@ -153,9 +186,11 @@ set_there l path bound node walk a b c gains =
     let B = gives l path bound high in
     ⊎_elim
     (λ x.
-    let is = same_one low walk x in
-    (walk, set_low A B p q low high walk a b
-        (ap (gives l path (bound - 1)) is ∙ given_by l path (bound - 1) walk gains) is))
+    let is = same_one low walk x in (
+      walk,
+      set_low A B p q low high walk a b
+          (ap (gives l path (bound - 1)) is ∙ given_by l path (bound - 1) walk gains) is,
+    ))
     (λ y.
     let is = same_one high walk y in
     let e = ap (gives l path (bound - 1)) is ∙ given_by l path (bound - 1) walk gains in
@@ -176,7 +211,7 @@ set_there l path bound node walk a b c gains =
 pub refuted_before : (w q : ℤ) (t m p : ℕ) → t ≤ m → m ≤ p → Refutes w q m → (Refutes w q p → ⊥) → Refutes w q t
 refuted_before w q t m p le le' gains shut =
     ⊎_elim (λ given. given) (λ none. absurd (shut (refutes_later w q t m p le le' none gains)))
-        (either (w +ℤ q *ℤ pos t))
+    (either (w +ℤ q *ℤ pos t))
   where
     either : (z : ℤ) → (pos 0 <ℤ z) ⊎ (pos 0 <ℤ z → ⊥)
     either z = by_lt_z (pos 0) z (λ lt. inl lt) (λ le. inr (λ lt. omega (arith, ints, le, lt)))
@@ -185,10 +220,10 @@ refuted_before w q t m p le le' gains shut =
 pub set_usable : (l : LineData) (path : List Decision) (bound : ℕ) (node : Node) (walk : List Constraint)
     → IsUsable l path (low_of node)
     → IsUsable l path (high_of node) → setting_walk l path bound node ≡ Some walk → IsClosedWalk l path walk
-        × IsWalk walk
+    × IsWalk walk
 set_usable l path bound node walk low high is =
     let r =
     set_is (gives l path bound (low_of node)) (gives l path bound (high_of node))
-        (gives l path (bound - 1) (low_of node))
+    (gives l path (bound - 1) (low_of node))
     (gives l path (bound - 1) (high_of node)) (low_of node) (high_of node) walk is in
     ⊎_elim (λ x. subst (IsUsable l path) x.0 low) (λ y. subst (IsUsable l path) y.0 high) r.2

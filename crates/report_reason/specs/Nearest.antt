@@ -1,7 +1,24 @@
 -- The branch of a tree that comes closest to a faster timetable: its walks refute all periods below the bound, but
 -- not the bound itself.
-use Rattle.std.specs.Prelude.{◌≡◌, ℕ, ◌<◌, ◌-◌, ◌||◌, Bool, false, cond, int_lt, List, Option, Some, None, option_map,
-    pos, ◌+ℤ◌, ◌*ℤ◌}
+use Rattle.std.specs.Prelude.{
+  ◌≡◌,
+  ℕ,
+  ◌<◌,
+  ◌-◌,
+  ◌||◌,
+  Bool,
+  false,
+  cond,
+  int_lt,
+  List,
+  Option,
+  Some,
+  None,
+  option_map,
+  pos,
+  ◌+ℤ◌,
+  ◌*ℤ◌,
+}
 use Rattle.hoist_base.specs.LineData.{LineData}
 use Rattle.choice_tree.specs.declared.question.Decision.{Decision}
 use Rattle.choice_tree.specs.declared.constraint.Constraint.{Constraint}
