@@ -17,7 +17,8 @@ th { font-weight: 600 }
 .least td:nth-child(4) { font-weight: 600 }
 .greatest td:nth-child(4) { font-weight: 600; color: #a33c00 }
 .walk tr:last-child td { font-weight: 600 }
-.wide { overflow-x: auto }
+.wide { overflow-x: auto; padding: 8px 0 }
+.diagram { overflow: visible }
 .key { margin-right: 1.5rem; white-space: nowrap }
 svg { vertical-align: middle }
 line, polyline { fill: none; stroke-width: 1; vector-effect: non-scaling-stroke }
