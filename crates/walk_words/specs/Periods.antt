@@ -3,6 +3,7 @@ use Rattle.std.specs.Prelude.{ℕ, zero, suc, ◌≤◌, ◌/◌, ℤ, pos, negs
 use Rattle.std.specs.Int.{div_ceil}
 use Rattle.std.specs.Fmt.{signed_decimal}
 use Rattle.cycle_walk.specs.declared.sums.Sums.{Sums}
+use Rattle.walk_words.specs.Places.{signed_count_text}
 pub use Rattle.walk_words.specs.declared.periods.Periods.{Periods}
 use Rattle.walk_words.specs.declared.periods.Periods.TheVariants.{All, Least, Most, Nothing}
 
@@ -38,5 +39,6 @@ periods_text Nothing = codes ", which no period has room for"
 -- the sums of a walk and the periods that follow
 abbrev pub sums_text : Sums → List ℕ
 sums_text s =
-    codes "ticks of the walk: "
-    ++ (signed_decimal s.w ++ (codes ", periods: " ++ (signed_decimal (neg_ℤ s.q) ++ periods_text (periods_of s))))
+    codes "the walk takes "
+    ++ (signed_decimal s.w
+    ++ (codes " ticks in " ++ (signed_count_text (neg_ℤ s.q) ++ periods_text (periods_of s))))

@@ -1,7 +1,6 @@
 -- Tanks by name, and carriers.
-use Rattle.std.specs.Prelude.{ℕ, ℤ, List, [], ◌∷◌, ◌++◌, codes, decimal}
+use Rattle.std.specs.Prelude.{ℕ, ◌+◌, ◌==◌, cond, if◌then◌else◌, ℤ, pos, negsuc, List, [], ◌∷◌, ◌++◌, codes, decimal}
 use Rattle.std.specs.List.{flat_map}
-use Rattle.std.specs.Fmt.{signed_decimal}
 use Rattle.hoist_base.specs.LineData.{LineData, tank}
 use Rattle.choice_tree.specs.declared.question.Decision.{Decision}
 use Rattle.path_constraints.specs.Tanks.{tanks_below}
@@ -22,6 +21,15 @@ place l path c k = names l (tanks_below l path c k)
 abbrev pub carrier_text : ℕ → List ℕ
 carrier_text c = codes "carrier " ++ decimal c
 
--- so many periods later
-unfoldable pub later_text : ℤ → List ℕ
-later_text q = codes ", periods later: " ++ signed_decimal q
+-- a number of periods, and one that may be negative
+abbrev pub count_text : ℕ → List ℕ
+count_text n = decimal n ++ cond (n == 1) (codes " period") (codes " periods")
+
+abbrev pub signed_count_text : ℤ → List ℕ
+signed_count_text (pos n) = count_text n
+signed_count_text (negsuc n) = codes "-" ++ count_text (n + 1)
+
+-- so many periods later or earlier, or nothing where it is the same period
+abbrev pub later_text : ℤ → List ℕ
+later_text (pos n) = if n == 0 then [] else codes ", " ++ (count_text n ++ codes " later")
+later_text (negsuc n) = codes ", " ++ (count_text (n + 1) ++ codes " earlier")

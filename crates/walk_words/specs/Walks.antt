@@ -2,7 +2,6 @@
 use Rattle.std.specs.Prelude.{ℕ, ℤ, neg_ℤ, List, codes, map}
 use Rattle.std.specs.Fmt.{signed_decimal}
 use Rattle.hoist_base.specs.LineData.{LineData}
-use Rattle.longest_path.specs.declared.systems.Arc.{Arc}
 use Rattle.choice_tree.specs.declared.question.Decision.{Decision}
 use Rattle.choice_tree.specs.declared.constraint.Constraint.{Constraint}
 use Rattle.path_constraints.specs.Constraints.{arc_of}

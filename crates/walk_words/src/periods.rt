@@ -3,6 +3,7 @@ ghost use Rattle.std.specs.Prelude.{◌≡◌, ◌≤◌, ◌++◌, OnOk, IfOk};
 ghost use Rattle.cycle_walk.specs.Refuting.{AreSmall};
 ghost use Rattle.walk_words.specs.Periods as periods;
 
+use crate::places::push_signed_count;
 use cycle_walk::Sums;
 use std::alloc::{AllocError, Global};
 use text_writing::{push_word_number, push_word_signed};
@@ -55,15 +56,16 @@ fn push_periods(text: &mut Vec<u8>, left: Periods) -> Result<(), AllocError>
     }
 }
 
-/// The sums of a closed walk in words, and the periods that follow from them: "ticks of the walk: 620, periods: 2,
+/// The sums of a closed walk in words, and the periods that follow from them: "the walk takes 620 ticks in 2 periods,
 /// so the period is at least 310".
 pub fn sums_words(alloc: Global, sums: Sums) -> Result<Vec<u8>, AllocError>
     requires { AreSmall sums }
     ensures { IfOk result (λ text. text.items ≡ periods.sums_text sums) }
 {
     let mut text = Vec::new(alloc);
-    push_word_signed(&mut text, b"ticks of the walk: ", sums.w)?;
-    push_word_signed(&mut text, b", periods: ", -sums.q)?;
+    push_word_signed(&mut text, b"the walk takes ", sums.w)?;
+    text.extend_from_slice(b" ticks in ")?;
+    push_signed_count(&mut text, -sums.q)?;
     push_periods(&mut text, periods_of(sums))?;
     Ok(text)
 }

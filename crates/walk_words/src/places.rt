@@ -1,5 +1,5 @@
 // Tanks by name, and carriers.
-ghost use Rattle.std.specs.Prelude.{◌≡◌, ◌<◌, ◌++◌, length, OnOk, All};
+ghost use Rattle.std.specs.Prelude.{◌≡◌, ◌<◌, ◌++◌, codes, length, OnOk, All};
 ghost use Rattle.std.specs.List.{flat_map};
 ghost use Rattle.hoist_base.specs.LineData.{IsVisit};
 ghost use Rattle.hoist_base.specs.LineData as lines;
@@ -10,7 +10,7 @@ use choice_tree::Decision;
 use hoist_base::{Line, VisitId};
 use path_constraints::tanks_below;
 use std::alloc::AllocError;
-use text_writing::{push_word_number, push_word_signed};
+use text_writing::{push_number, push_word_number};
 
 /// Writes the name of a tank.
 fn push_name(text: &mut Vec<u8>, line: &Line, tank: u32) -> Result<(), AllocError>
@@ -73,10 +73,49 @@ pub(crate) fn push_carrier(text: &mut Vec<u8>, carrier: u32) -> Result<(), Alloc
     push_word_number(text, b"carrier ", carrier as u64)
 }
 
-#[tactic(auto, unfolding(crate::specs::Places::later_text))]
-/// Writes that it is so many periods later.
+/// Writes a number of periods.
+fn push_count(text: &mut Vec<u8>, count: u64) -> Result<(), AllocError>
+    ensures { OnOk result (text.new.items ≡ text.old.items ++ places.count_text count) }
+{
+    push_number(text, count)?;
+    if count == 1 {
+        text.extend_from_slice(b" period")
+    } else {
+        text.extend_from_slice(b" periods")
+    }
+}
+
+/// Writes a number of periods that may be negative.
+pub(crate) fn push_signed_count(text: &mut Vec<u8>, q: i64) -> Result<(), AllocError>
+    ensures { OnOk result (text.new.items ≡ text.old.items ++ places.signed_count_text q) }
+{
+    let count = q.unsigned_abs();
+    if q < 0 {
+        text.extend_from_slice(b"-")?;
+    }
+    push_count(text, count)
+}
+
+/// Writes that it is another period, so many later or earlier.
+fn push_shift(text: &mut Vec<u8>, count: u64, word: &[u8]) -> Result<(), AllocError>
+    ensures { OnOk result (text.new.items ≡ text.old.items
+        ++ (codes ", " ++ (places.count_text count ++ word.now))) }
+{
+    text.extend_from_slice(b", ")?;
+    push_count(text, count)?;
+    text.extend_from_slice(word)
+}
+
+/// Writes how many periods later or earlier it is, where it isn't the same period.
 pub(crate) fn push_later(text: &mut Vec<u8>, q: i64) -> Result<(), AllocError>
     ensures { OnOk result (text.new.items ≡ text.old.items ++ places.later_text q) }
 {
-    push_word_signed(text, b", periods later: ", q)
+    let count = q.unsigned_abs();
+    if q > 0 {
+        return push_shift(text, count, b" later");
+    }
+    if q < 0 {
+        return push_shift(text, count, b" earlier");
+    }
+    Ok(())
 }

@@ -3,9 +3,11 @@ use crate::{Periods, periods_of, sums_words};
 use cycle_walk::Sums;
 use std::test::Fail;
 
-const LEAST: &[u8] = b"ticks of the walk: 621, periods: 2, so the period is at least 311";
+const LEAST: &[u8] = b"the walk takes 621 ticks in 2 periods, so the period is at least 311";
 
-const MOST: &[u8] = b"ticks of the walk: -10, periods: -3, so the period is at most 3";
+const ONE: &[u8] = b"the walk takes 310 ticks in 1 period, so the period is at least 310";
+
+const MOST: &[u8] = b"the walk takes -10 ticks in -3 periods, so the period is at most 3";
 
 #[test]
 fn periods_that_sums_leave(rt: HostRuntime) -> Result<(), Fail> {
@@ -29,6 +31,8 @@ fn periods_that_sums_leave(rt: HostRuntime) -> Result<(), Fail> {
 fn sums_in_words(rt: HostRuntime) -> Result<(), Fail> {
     let least = sums_words(rt.alloc(), Sums { w: 621, q: -2 })?;
     assert!(rt; least.as_slice() == LEAST);
+    let one = sums_words(rt.alloc(), Sums { w: 310, q: -1 })?;
+    assert!(rt; one.as_slice() == ONE);
     let most = sums_words(rt.alloc(), Sums { w: -10, q: 3 })?;
     assert!(rt; most.as_slice() == MOST);
     Ok(())

@@ -1,6 +1,7 @@
 use Rattle.std.proofs.Common.{rules, ◌≡◌, w64, to_z, of_z, pos, ◌-ℤ◌, arith, ◌∷◌, [], ◌++◌, codes, neg_ℤ, ap, ◌∙◌}
 use Rattle.std.specs.Fmt.{signed_decimal}
 use Rattle.walk_words.specs.Periods.{periods_of, periods_text}
+use Rattle.walk_words.specs.Places.{signed_count_text}
 use mir.Val.{SFits}
 use Rattle.std.proofs.lemmas.Int.{ints, to_z-of_z}
 use Rattle.walk_words.proofs.Texts.{grown}
@@ -14,14 +15,19 @@ returns c =
     let less : pos 0 -ℤ to_z w64 (of_z w64 s.q) ≡ neg_ℤ s.q = omega (arith, ints, to_z-of_z w64 s.q kept) in
     let negated : to_z w64 (of_z w64 (pos 0 -ℤ to_z w64 (of_z w64 s.q))) ≡ to_z w64 (of_z w64 (neg_ℤ s.q)) =
     ap (λ z. to_z w64 (of_z w64 z)) less in
-    grown [] c.push_word_signed.new.text.items (codes "ticks of the walk: " ++ signed_decimal s.w)
-    ((c.push_word_signed-2.new.text.items, codes ", periods: " ++ signed_decimal (neg_ℤ s.q))
+    grown [] c.push_word_signed.new.text.items (codes "the walk takes " ++ signed_decimal s.w)
+    ((c.extend_from_slice.new.self.items, codes " ticks in ")
+    ∷ (c.push_signed_count.new.text.items, signed_count_text (neg_ℤ s.q))
     ∷ (c.push_periods.new.text.items, periods_text (periods_of s))
     ∷ []) (search rules) (
-      c.in_ok-push_word_signed-2.ensures
-          ∙ ap (λ z. c.push_word_signed.new.text.items ++ (codes ", periods: " ++ signed_decimal z)) (negated ∙ to_z-of_z w64 (neg_ℤ s.q) fits),
+      c.in_ok-extend_from_slice.ensures.items,
       (
-        search rules,
-        tt,
+        c.in_ok-push_signed_count.ensures
+            ∙ ap (λ z. c.extend_from_slice.new.self.items ++ signed_count_text z)
+            (negated ∙ to_z-of_z w64 (neg_ℤ s.q) fits),
+        (
+          search rules,
+          tt,
+        ),
       ),
     )
