@@ -52,7 +52,8 @@ word_long single (rows.Left low) f = omega arith
 row_long : (single : Bool) (r : Row) → IsRow single r → arity r + 1 ≤ length (row_text single r)
 row_long single r f = omega (arith, length-append (row_word (kind_of r)) (row_after single r), word_long single r f)
 
-pub row_item : (single : Bool) → IsRowItem arity most_children (IsRow single) (row_text single) Any (row_at single) (rows.Left None)
+pub row_item : (single : Bool)
+    → IsRowItem arity most_children (IsRow single) (row_text single) Any (row_at single) (rows.Left None)
 row_item single = record {
   reads = row_read single;
   stops = λ xs t f s. tt;
@@ -102,18 +103,21 @@ length_placed nodes i row =
           (Left (Some [])),
     )
 
-pub placed_other : (nodes : List Node) (i j : ℕ) (row : Row) → j < length nodes → j ≢ i → node_at (placed nodes i row) j ≡ node_at nodes j
+pub placed_other : (nodes : List Node) (i j : ℕ) (row : Row) → j < length nodes → j ≢ i
+    → node_at (placed nodes i row) j ≡ node_at nodes j
 placed_other nodes i j row lt ne =
     get_or_append_left (set nodes i (new_node nodes row)) (blanks row) (Left None) j (omega (arith, lt, length-set nodes i (new_node nodes row)))
     ∙ get_or-set_other nodes i j (new_node nodes row) (Left None) ne
 
-pub placed_same : (nodes : List Node) (i : ℕ) (row : Row) → i < length nodes → node_at (placed nodes i row) i ≡ node_of row (length nodes)
+pub placed_same : (nodes : List Node) (i : ℕ) (row : Row) → i < length nodes
+    → node_at (placed nodes i row) i ≡ node_of row (length nodes)
 placed_same nodes i row lt =
     get_or_append_left (set nodes i (new_node nodes row)) (blanks row) (Left None) i (omega (arith, lt, length-set nodes i (new_node nodes row)))
     ∙ get_or-set_same nodes i (new_node nodes row) (Left None) lt
 
 -- a new child is left
-pub placed_new : (nodes : List Node) (i j : ℕ) (row : Row) → length nodes ≤ j → j < length nodes + arity row → node_at (placed nodes i row) j ≡ Left (Some [])
+pub placed_new : (nodes : List Node) (i j : ℕ) (row : Row) → length nodes ≤ j → j < length nodes + arity row
+    → node_at (placed nodes i row) j ≡ Left (Some [])
 placed_new nodes i j row past lt =
     get_or-append_right (set nodes i (new_node nodes row)) (blanks row) (length nodes) j (Left None) (length-set nodes i (new_node nodes row)) past
     ∙ get_or-replicate (arity row) (j - length nodes) (Left (Some [])) (Left None) (omega arith)
@@ -139,7 +143,8 @@ all_weaken : (P Q : ℕ → Type 0) (xs : List ℕ) → ((x : ℕ) → P x → Q
 all_weaken P Q [] h f = tt
 all_weaken P Q (x ∷ xs) h f = (h x f.0, all_weaken P Q xs h f.1)
 
-all_both : (P Q : ℕ → Type 0) (xs : List ℕ) → AllByRecursion P xs → AllByRecursion Q xs → AllByRecursion (λ x. P x × Q x) xs
+all_both : (P Q : ℕ → Type 0) (xs : List ℕ) → AllByRecursion P xs → AllByRecursion Q xs
+    → AllByRecursion (λ x. P x × Q x) xs
 all_both P Q [] f g = tt
 all_both P Q (x ∷ xs) f g = ((f.0, g.0), all_both P Q xs f.1 g.1)
 
@@ -152,7 +157,8 @@ new_numbers from (suc n) = (
 )
 
 -- new numbers before old ones
-distinct_new : (from n : ℕ) (xs : List ℕ) → AllByRecursion (λ j. j < from) xs → Distinct xs → Distinct (numbers_from from n ++ xs)
+distinct_new : (from n : ℕ) (xs : List ℕ) → AllByRecursion (λ j. j < from) xs → Distinct xs
+    → Distinct (numbers_from from n ++ xs)
 distinct_new from zero xs below f = f
 distinct_new from (suc n) xs below f = (
   all_append (λ j. from ≢ j) (numbers_from (from + 1) n) xs
@@ -166,7 +172,8 @@ distinct_new from (suc n) xs below f = (
 abbrev pub next_waiting : List Node → Row → List ℕ → List ℕ
 next_waiting nodes row waiting = numbers_from (length nodes) (arity row) ++ waiting
 
-pub length_next : (nodes : List Node) (row : Row) (waiting : List ℕ) → length (next_waiting nodes row waiting) ≡ arity row + length waiting
+pub length_next : (nodes : List Node) (row : Row) (waiting : List ℕ)
+    → length (next_waiting nodes row waiting) ≡ arity row + length waiting
 length_next nodes row waiting = omega (arith, length-append (numbers_from (length nodes) (arity row)) waiting, length-numbers_from (length nodes) (arity row))
 
 pub next_left : (nodes : List Node) (i : ℕ) (row : Row) (waiting : List ℕ) → AreLeft nodes waiting → Apart i waiting
@@ -181,13 +188,15 @@ next_left nodes i row waiting left apart =
     (λ j g. (omega (arith, g.0.0, n), subst IsLeft (sym (placed_other nodes i j row g.0.0 (λ e. g.1 (sym e)))) g.0.1))
     (all_both (λ j. (j < length nodes) × IsLeft (node_at nodes j)) (λ j. i ≢ j) waiting left apart))
 
-pub next_distinct : (nodes : List Node) (row : Row) (waiting : List ℕ) → AreLeft nodes waiting → Distinct waiting → Distinct (next_waiting nodes row waiting)
+pub next_distinct : (nodes : List Node) (row : Row) (waiting : List ℕ) → AreLeft nodes waiting → Distinct waiting
+    → Distinct (next_waiting nodes row waiting)
 next_distinct nodes row waiting left f =
     distinct_new (length nodes) (arity row) waiting
     (all_weaken (λ j. (j < length nodes) × IsLeft (node_at nodes j)) (λ j. j < length nodes) waiting (λ x g. g.0) left) f
 
 -- a node that is there and doesn't wait is none of those that wait next
-pub next_apart : (nodes : List Node) (j : ℕ) (row : Row) (waiting : List ℕ) → j < length nodes → Apart j waiting → Apart j (next_waiting nodes row waiting)
+pub next_apart : (nodes : List Node) (j : ℕ) (row : Row) (waiting : List ℕ) → j < length nodes → Apart j waiting
+    → Apart j (next_waiting nodes row waiting)
 next_apart nodes j row waiting lt f =
     all_append (λ x. j ≢ x) (numbers_from (length nodes) (arity row)) waiting
     (all_weaken (λ x. (length nodes ≤ x) × (x < length nodes + arity row)) (λ x. j ≢ x) (numbers_from (length nodes) (arity row))
@@ -207,7 +216,8 @@ abbrev made : List ℕ → List Node → Result (List Row × List ℕ) ℕ → R
 made waiting nodes r = r >>= λ x. Ok (grown x.0 waiting nodes, x.1)
 
 -- it doesn't matter how much fuel is left, where it is enough
-fuel_step : (r : Result (Row × List ℕ) ℕ) (f g : Row × List ℕ → Result (List Row × List ℕ) ℕ) → ((x : Row × List ℕ) → r ≡ Ok x → f x ≡ g x)
+fuel_step : (r : Result (Row × List ℕ) ℕ) (f g : Row × List ℕ → Result (List Row × List ℕ) ℕ)
+    → ((x : Row × List ℕ) → r ≡ Ok x → f x ≡ g x)
     → (r >>= λ x. behind x.0 (f x)) ≡ (r >>= λ x. behind x.0 (g x))
 fuel_step (Ok x) f g h = ap (behind x.0) (h x refl)
 fuel_step (Err left) f g h = refl
@@ -232,7 +242,8 @@ unfolding grown
 closes i waiting nodes row (Ok y) = refl
 closes i waiting nodes row (Err left) = refl
 
-opens : (single : Bool) (i : ℕ) (waiting : List ℕ) (nodes : List Node) (rest : List ℕ) (r : Result (Row × List ℕ) ℕ) → row_at single rest ≡ r
+opens : (single : Bool) (i : ℕ) (waiting : List ℕ) (nodes : List Node) (rest : List ℕ) (r : Result (Row × List ℕ) ℕ)
+    → row_at single rest ≡ r
     → made (i ∷ waiting) nodes (r >>= λ x. behind x.0 (forest_at arity (row_at single) (length rest) (length waiting + arity x.0) x.1)) ≡
     (r >>= opened single i waiting nodes)
 opens single i waiting nodes rest (Err left) e = refl
@@ -254,7 +265,8 @@ tree_opens single i waiting nodes rest =
     ap (λ (k : ℕ). made (i ∷ waiting) nodes (forest_at arity (row_at single) k (suc (length waiting)) rest)) fuel
     ∙ opens single i waiting nodes rest (row_at single rest) refl
 
-tree_ends : (single : Bool) (nodes : List Node) (rest : List ℕ) (total : Result (List Node × List ℕ) ℕ) → tree_from single [] nodes rest ≡ total
+tree_ends : (single : Bool) (nodes : List Node) (rest : List ℕ) (total : Result (List Node × List ℕ) ℕ)
+    → tree_from single [] nodes rest ≡ total
     → total ≡ Ok (nodes, rest)
 unfolding forest_at grown
 tree_ends single nodes rest total so_far =
@@ -290,7 +302,8 @@ popped old new i e = ap reverse e ∙ reverse-append new (i ∷ [])
 
 pub goes_on_growing : (single : Bool) (bytes old new : List ℕ) (i : ℕ) (nodes : List Node) (rest : List ℕ) (row : Row) (after next : List ℕ) (more : List Node)
     → IsGrowing single bytes (reverse old) nodes rest → old ≡ new ++ i ∷ []
-    → row_at single rest ≡ Ok (row, after) → more ≡ placed nodes i row → next ≡ numbers_from (length nodes) (arity row) ++ reverse new
+    → row_at single rest ≡ Ok (row, after) → more ≡ placed nodes i row
+    → next ≡ numbers_from (length nodes) (arity row) ++ reverse new
     → IsGrowing single bytes next more after
 goes_on_growing single bytes old new i nodes rest row after next more h pops e n w =
     let top : IsGrowing single bytes (i ∷ reverse new) nodes rest = subst (λ (x : List ℕ). IsGrowing single bytes x nodes rest) (popped old new i pops) h in
@@ -307,18 +320,21 @@ goes_on_growing single bytes old new i nodes rest row after next more h pops e n
     (subst (λ (x : List Node). IsGrowing single bytes (next_waiting nodes row (reverse new)) x after) (sym n) made_more)
 
 -- the node on top is there, and left
-pub top_left : (single : Bool) (bytes old new : List ℕ) (i : ℕ) (nodes : List Node) (rest : List ℕ) → IsGrowing single bytes (reverse old) nodes rest
+pub top_left : (single : Bool) (bytes old new : List ℕ) (i : ℕ) (nodes : List Node) (rest : List ℕ)
+    → IsGrowing single bytes (reverse old) nodes rest
     → old ≡ new ++ i ∷ [] → (i < length nodes) × IsLeft (node_at nodes i)
 top_left single bytes old new i nodes rest h pops = (subst (λ (x : List ℕ). AreLeft nodes x) (popped old new i pops) h.left).0
 
 pub growing_breaks : (single : Bool) (bytes old new : List ℕ) (i : ℕ) (nodes : List Node) (rest : List ℕ) (e : Stop)
-    → IsGrowing single bytes (reverse old) nodes rest → old ≡ new ++ i ∷ [] → Fails e (row_at single rest) → Fails e (tree_at single bytes)
+    → IsGrowing single bytes (reverse old) nodes rest → old ≡ new ++ i ∷ [] → Fails e (row_at single rest)
+    → Fails e (tree_at single bytes)
 growing_breaks single bytes old new i nodes rest stops.Memory h pops f = tt
 growing_breaks single bytes old new i nodes rest (stops.Broken left) h pops f =
     sym h.reads ∙ ap (λ (x : List ℕ). tree_from single x nodes rest) (popped old new i pops) ∙ tree_opens single i (reverse new) nodes rest
     ∙ ap (λ (r : Result (Row × List ℕ) ℕ). r >>= opened single i (reverse new) nodes) f
 
-pub growing_ends : (single : Bool) (bytes old : List ℕ) (nodes : List Node) (rest : List ℕ) → IsGrowing single bytes (reverse old) nodes rest → length old ≡ 0
+pub growing_ends : (single : Bool) (bytes old : List ℕ) (nodes : List Node) (rest : List ℕ)
+    → IsGrowing single bytes (reverse old) nodes rest → length old ≡ 0
     → tree_at single bytes ≡ Ok (nodes, rest)
 growing_ends single bytes old nodes rest h e =
     let none : old ≡ [] = nil_from_length old e in

@@ -62,7 +62,8 @@ arity_is single (Solved low) f = refl
 arity_is single (Left low) f = refl
 
 -- a node is told by its line and its children
-pub node_again : (single : Bool) (n : Node) (first : ℕ) → IsNodeText single n → children_of n ≡ numbers_from first (arity (row_of n))
+pub node_again : (single : Bool) (n : Node) (first : ℕ) → IsNodeText single n
+    → children_of n ≡ numbers_from first (arity (row_of n))
     → node_of (row_of n) first ≡ n
 node_again single (Split (questions.Choose v) children) first f e = ap (λ (cs : List ℕ). Split (questions.Choose v) cs) (sym e)
 node_again single (Split (questions.TankOrder a b q) children) first f e = ap (λ (cs : List ℕ). Split (questions.TankOrder a b q) cs) (sym e)

@@ -1,5 +1,5 @@
--- Trees and their lines in preorder: a tree that grew line by line has these lines in preorder, and its nodes are numbered in
--- preorder; and each tree that is numbered so grew from its lines.
+-- Trees and their lines in preorder: a tree that grew line by line has these lines in preorder, and its nodes are
+-- numbered in preorder; and each tree that is numbered so grew from its lines.
 use Rattle.std.proofs.Common.{⊎_elim, ◌⊎◌, inl, inr, ◌≡◌, ℕ, zero, suc, ◌+◌, ◌-◌, ◌^◌, ◌<◌, ◌≤◌, List, [], ◌∷◌, ◌++◌, length, get_or, map, Bool, refl, sym, ap}
 use Rattle.std.proofs.Common.{subst, ◌∙◌, arith, length-append, set, Some, None}
 use Rattle.std.specs.List.{flat_map, AllByRecursion}
@@ -53,7 +53,8 @@ there_append : (nodes : List Node) (xs ys : List ℕ) → There nodes xs → The
 there_append nodes [] ys f g = g
 there_append nodes (x ∷ xs) ys f g = (f.0, there_append nodes xs ys f.1 g)
 
-there_each : (nodes : List Node) (xs : List ℕ) → ((m : ℕ) → m < length xs → get_or xs m 0 < length nodes) → There nodes xs
+there_each : (nodes : List Node) (xs : List ℕ) → ((m : ℕ) → m < length xs → get_or xs m 0 < length nodes)
+    → There nodes xs
 there_each nodes [] h = tt
 there_each nodes (x ∷ xs) h = (h 0 (omega arith), there_each nodes xs (λ m lt. h (suc m) (omega arith)))
 
@@ -62,7 +63,8 @@ children_there nodes i tree =
     there_each nodes (children_of (node_at nodes i))
     (λ m lt. (tree.later i m (get_or (children_of (node_at nodes i)) m 0) (record { there = lt; child = refl })).1)
 
-visits : (nodes : List Node) → IsTree nodes → (waiting order : List ℕ) → There nodes waiting → all_below nodes waiting ≡ order → Visits nodes waiting order
+visits : (nodes : List Node) → IsTree nodes → (waiting order : List ℕ) → There nodes waiting
+    → all_below nodes waiting ≡ order → Visits nodes waiting order
 visits nodes tree [] [] there e = refl
 visits nodes tree (i ∷ waiting) [] there e =
     let bad : i ∷ all_below nodes (children_of (node_at nodes i) ++ waiting) ≡ [] = sym (below_first nodes tree i waiting there.0) ∙ e in
@@ -89,7 +91,8 @@ lines_of nodes = rows_in nodes (preorder nodes)
 abbrev pub HaveLines : Bool → List Node → Type 0
 HaveLines single nodes = (i : ℕ) → i < length nodes → IsNodeText single (node_at nodes i)
 
-lines_fit : (single : Bool) (nodes : List Node) (waiting order : List ℕ) → HaveLines single nodes → Visits nodes waiting order
+lines_fit : (single : Bool) (nodes : List Node) (waiting order : List ℕ) → HaveLines single nodes
+    → Visits nodes waiting order
     → IsForest arity (length waiting) (rows_in nodes order) × AllByRecursion (IsRow single) (rows_in nodes order) ×
     (flat_map (λ i. node_text single (node_at nodes i)) order ≡ rows_text single (rows_in nodes order))
 lines_fit single nodes [] [] fits v = (tt, tt, refl)
@@ -117,7 +120,8 @@ lines_are_rows single nodes tree fits = lines_fit single nodes (0 ∷ []) (preor
 
 -- ---- a tree that grew
 
-forest_behind : (nodes : List Node) (row : Row) (waiting : List ℕ) (rows : List Row) → IsForest arity (length waiting + arity row) rows
+forest_behind : (nodes : List Node) (row : Row) (waiting : List ℕ) (rows : List Row)
+    → IsForest arity (length waiting + arity row) rows
     → IsForest arity (length (next_waiting nodes row waiting)) rows
 forest_behind nodes row waiting rows f =
     let e : length waiting + arity row ≡ length (next_waiting nodes row waiting) = omega (arith, length_next nodes row waiting) in
@@ -158,11 +162,13 @@ grown_other (row ∷ rows) (i ∷ waiting) nodes j lt f =
     (next_apart nodes j row waiting lt f.1)
     ∙ placed_other nodes i j row lt f.0
 
-ended_tree : (nodes : List Node) (i : ℕ) (leaf : Node) → IsTree nodes → i < length nodes → IsLeft (node_at nodes i) → IsLeaf leaf
+ended_tree : (nodes : List Node) (i : ℕ) (leaf : Node) → IsTree nodes → i < length nodes → IsLeft (node_at nodes i)
+    → IsLeaf leaf
     → IsTree (set nodes i leaf ++ [])
 ended_tree nodes i leaf tree lt left f = subst IsTree (sym (append-nil (set nodes i leaf))) (end_is_tree nodes i leaf tree lt left f)
 
-placed_is_tree : (nodes : List Node) (i : ℕ) (row : Row) → IsTree nodes → i < length nodes → IsLeft (node_at nodes i) → arity row ≤ most_children
+placed_is_tree : (nodes : List Node) (i : ℕ) (row : Row) → IsTree nodes → i < length nodes → IsLeft (node_at nodes i)
+    → arity row ≤ most_children
     → length nodes + arity row < 2 ^ 32 → IsTree (placed nodes i row)
 placed_is_tree nodes i (rows.Choose v m) tree lt left few room = split_is_tree nodes i (questions.Choose v) m [] tree lt left few room
 placed_is_tree nodes i (rows.TankOrder a b q) tree lt left few room = split_is_tree nodes i (questions.TankOrder a b q) 2 [] tree lt left few room
@@ -174,7 +180,8 @@ placed_is_tree nodes i (rows.Stuck m) tree lt left few room = ended_tree nodes i
 placed_is_tree nodes i (rows.Solved low) tree lt left few room = ended_tree nodes i (Solved low) tree lt left tt
 placed_is_tree nodes i (rows.Left low) tree lt left few room = ended_tree nodes i (Left low) tree lt left tt
 
-grown_is_tree : (single : Bool) (rows : List Row) (waiting : List ℕ) (nodes : List Node) → IsForest arity (length waiting) rows
+grown_is_tree : (single : Bool) (rows : List Row) (waiting : List ℕ) (nodes : List Node)
+    → IsForest arity (length waiting) rows
     → AllByRecursion (IsRow single) rows → IsTree nodes → AreLeft nodes waiting → Distinct waiting
     → length nodes + length rows < 2 ^ 32 + length waiting → IsTree (grown rows waiting nodes)
 unfolding grown
@@ -188,7 +195,8 @@ grown_is_tree single (row ∷ rows) (i ∷ waiting) nodes f g tree left distinct
     (placed_is_tree nodes i row tree left.0.0 left.0.1 few (omega (arith, room, forest_count (length (next_waiting nodes row waiting)) rows more, next)))
     (next_left nodes i row waiting left.1 distinct.0) (next_distinct nodes row waiting left.1 distinct.1) (omega (arith, room, next, length_placed nodes i row))
 
-pub tree_is_tree : (single : Bool) (rows : List Row) → IsForest arity 1 rows → AllByRecursion (IsRow single) rows → length rows < 2 ^ 32 → IsTree (tree_of rows)
+pub tree_is_tree : (single : Bool) (rows : List Row) → IsForest arity 1 rows → AllByRecursion (IsRow single) rows
+    → length rows < 2 ^ 32 → IsTree (tree_of rows)
 tree_is_tree single rows f g few = grown_is_tree single rows (0 ∷ []) (Left None ∷ []) f g root_tree ((omega arith, tt), tt) (tt, tt) (omega (arith, few))
 
 -- ---- its lines and its numbers
@@ -200,7 +208,8 @@ numbers_split a (suc m) k =
     let b : a + 1 + m ≡ a + suc m = omega arith in
     ap (numbers_from a) e ∙ ap (λ (xs : List ℕ). a ∷ xs) (numbers_split (a + 1) m k) ∙ ap (λ (n : ℕ). a ∷ (numbers_from (a + 1) m ++ numbers_from n k)) b
 
-grown_again : (single : Bool) (final : List Node) (rows : List Row) (waiting order : List ℕ) (nodes : List Node) → final ≡ grown rows waiting nodes
+grown_again : (single : Bool) (final : List Node) (rows : List Row) (waiting order : List ℕ) (nodes : List Node)
+    → final ≡ grown rows waiting nodes
     → IsForest arity (length waiting) rows → AreLeft nodes waiting → Distinct waiting → Visits final waiting order
     → (flat_map (λ i. node_text single (node_at final i)) order ≡ rows_text single rows) ×
     (flat_map (λ i. children_of (node_at final i)) order ≡ numbers_from (length nodes) (length final - length nodes))
@@ -267,7 +276,8 @@ abbrev DoneOrWaits : (ℕ → Node → Type 0) → List Node → List ℕ → Ty
 DoneOrWaits P nodes waiting = (j : ℕ) → j < length nodes → Waits j waiting ⊎ P j (node_at nodes j)
 
 -- after one line more
-done_next : (P : ℕ → Node → Type 0) (nodes : List Node) (i : ℕ) (row : Row) (waiting : List ℕ) → i < length nodes → P i (node_of row (length nodes))
+done_next : (P : ℕ → Node → Type 0) (nodes : List Node) (i : ℕ) (row : Row) (waiting : List ℕ) → i < length nodes
+    → P i (node_of row (length nodes))
     → DoneOrWaits P nodes (i ∷ waiting) → DoneOrWaits P (placed nodes i row) (next_waiting nodes row waiting)
 done_next P nodes i row waiting lt p h j there =
     ⊎_elim
@@ -284,7 +294,8 @@ done_next P nodes i row waiting lt p h j there =
     (cases_lt j (length nodes)))
     (cases_eq j i)
 
-all_done : (single : Bool) (rows : List Row) (waiting : List ℕ) (nodes : List Node) → IsForest arity (length waiting) rows → AllByRecursion (IsRow single) rows
+all_done : (single : Bool) (rows : List Row) (waiting : List ℕ) (nodes : List Node)
+    → IsForest arity (length waiting) rows → AllByRecursion (IsRow single) rows
     → AreLeft nodes waiting → Distinct waiting → DoneOrWaits (λ j. IsNodeText single) nodes waiting
     → HaveLines single (grown rows waiting nodes)
 unfolding grown
@@ -299,7 +310,8 @@ all_done single (row ∷ rows) (i ∷ waiting) nodes f g left distinct h =
 first_waits : (P : ℕ → Node → Type 0) → DoneOrWaits P (Left None ∷ []) (0 ∷ [])
 first_waits P j lt = let z : j ≡ 0 = omega arith in inl (inl z)
 
-pub tree_has_lines : (single : Bool) (rows : List Row) → IsForest arity 1 rows → AllByRecursion (IsRow single) rows → HaveLines single (tree_of rows)
+pub tree_has_lines : (single : Bool) (rows : List Row) → IsForest arity 1 rows → AllByRecursion (IsRow single) rows
+    → HaveLines single (tree_of rows)
 tree_has_lines single rows f g = all_done single rows (0 ∷ []) (Left None ∷ []) f g ((omega arith, tt), tt) (tt, tt) (first_waits (λ j. IsNodeText single))
 
 -- ---- a numbered tree grew from its lines
@@ -324,7 +336,8 @@ numbers_cut (x ∷ xs) ys a (suc n) e =
     )
 
 -- lists that agree everywhere
-same_list : (xs ys : List Node) → length xs ≡ length ys → ((j : ℕ) → j < length xs → node_at xs j ≡ node_at ys j) → xs ≡ ys
+same_list : (xs ys : List Node) → length xs ≡ length ys → ((j : ℕ) → j < length xs → node_at xs j ≡ node_at ys j)
+    → xs ≡ ys
 same_list [] [] e h = refl
 same_list [] (y ∷ ys) e h = absurd (omega (arith, e))
 same_list (x ∷ xs) [] e h = absurd (omega (arith, e))
@@ -335,7 +348,8 @@ same_list (x ∷ xs) (y ∷ ys) e h =
 abbrev Same : List Node → ℕ → Node → Type 0
 Same nodes j n = n ≡ node_at nodes j
 
-below_next : (nodes : List Node) (i : ℕ) (row : Row) (waiting : List ℕ) → There nodes waiting → There (placed nodes i row) (next_waiting nodes row waiting)
+below_next : (nodes : List Node) (i : ℕ) (row : Row) (waiting : List ℕ) → There nodes waiting
+    → There (placed nodes i row) (next_waiting nodes row waiting)
 below_next nodes i row waiting there =
     let n = length_placed nodes i row in
     there_append (placed nodes i row) (numbers_from (length nodes) (arity row)) waiting
@@ -343,11 +357,13 @@ below_next nodes i row waiting there =
     (new_numbers (length nodes) (arity row)))
     (weaken (λ j. j < length nodes) waiting (λ j f. omega (arith, f, n)) there)
   where
-    weaken : (P : ℕ → Type 0) (xs : List ℕ) → ((j : ℕ) → P j → j < length (placed nodes i row)) → AllByRecursion P xs → There (placed nodes i row) xs
+    weaken : (P : ℕ → Type 0) (xs : List ℕ) → ((j : ℕ) → P j → j < length (placed nodes i row)) → AllByRecursion P xs
+        → There (placed nodes i row) xs
     weaken P [] h f = tt
     weaken P (x ∷ xs) h f = (h x f.0, weaken P xs h f.1)
 
-grew_from_lines : (single : Bool) (nodes : List Node) (waiting order : List ℕ) (so_far : List Node) → HaveLines single nodes → Visits nodes waiting order
+grew_from_lines : (single : Bool) (nodes : List Node) (waiting order : List ℕ) (so_far : List Node)
+    → HaveLines single nodes → Visits nodes waiting order
     → There so_far waiting → length so_far ≤ length nodes
     → flat_map (λ i. children_of (node_at nodes i)) order ≡ numbers_from (length so_far) (length nodes - length so_far)
     → DoneOrWaits (Same nodes) so_far waiting
@@ -379,7 +395,8 @@ grew_from_lines single nodes (i ∷ waiting) (x ∷ order) so_far fits v there l
     (cut.1 ∙ ap (λ (k : ℕ). numbers_from k (length nodes - n - length cs)) from ∙ ap (numbers_from (length (placed so_far i row))) many)
     (done_next (Same nodes) so_far i row waiting there.0 here h)
 
-pub tree_from_lines : (single : Bool) (nodes : List Node) → IsTree nodes → HaveLines single nodes → IsNumbered nodes → tree_of (lines_of nodes) ≡ nodes
+pub tree_from_lines : (single : Bool) (nodes : List Node) → IsTree nodes → HaveLines single nodes → IsNumbered nodes
+    → tree_of (lines_of nodes) ≡ nodes
 tree_from_lines single nodes tree fits numbered =
     grew_from_lines single nodes (0 ∷ []) (preorder nodes) (Left None ∷ []) fits (visits_all nodes tree) (omega arith, tt) (omega (arith, tree.root)) numbered
     (first_waits (Same nodes))

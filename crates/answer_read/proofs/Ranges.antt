@@ -7,7 +7,8 @@ use Rattle.field_reading.proofs.Items.{texts_from}
 
 -- lines that are told by the number alone are those of a list's items
 pub lines_are : {A : Type 0} (f : ℕ → List ℕ) (text : ℕ → A → List ℕ) (nil : A) (i n : ℕ) (xs : List A) → length xs ≡ n
-    → ((j : ℕ) → j < n → f (i + j) ≡ text (i + j) (get_or xs j nil)) → flat_map f (range_with_len i n) ≡ texts_from text i xs
+    → ((j : ℕ) → j < n → f (i + j) ≡ text (i + j) (get_or xs j nil))
+    → flat_map f (range_with_len i n) ≡ texts_from text i xs
 unfolding texts_from
 lines_are f text nil i zero [] e h = refl
 lines_are f text nil i zero (x ∷ xs) e h = absurd (omega (arith, e))
@@ -22,7 +23,8 @@ lines_are {A = A} f text nil i (suc n) (x ∷ xs) e h =
     ∙ ap (λ (l : List ℕ). text i x ++ l) others
 
 -- the same lines at other numbers
-same_lines : (f g : ℕ → List ℕ) (a b n : ℕ) → ((j : ℕ) → j < n → f (a + j) ≡ g (b + j)) → flat_map f (range_with_len a n) ≡ flat_map g (range_with_len b n)
+same_lines : (f g : ℕ → List ℕ) (a b n : ℕ) → ((j : ℕ) → j < n → f (a + j) ≡ g (b + j))
+    → flat_map f (range_with_len a n) ≡ flat_map g (range_with_len b n)
 same_lines f g a b zero h = refl
 same_lines f g a b (suc n) h =
     let za : a + 0 ≡ a = omega arith in
@@ -59,8 +61,10 @@ blocks f g n i (suc a) h =
     ∙ ap (flat_map g) (sym (range_split (i * n) n (a * n)))
     ∙ ap (λ (k : ℕ). flat_map g (range_with_len (i * n) k)) (sym m)
 
-pub nested_lines : {A : Type 0} (f : ℕ → ℕ → List ℕ) (text : ℕ → A → List ℕ) (nil : A) (a n : ℕ) (xs : List A) → length xs ≡ a * n
-    → ((c k : ℕ) → c < a → k < n → f c k ≡ text (c * n + k) (get_or xs (c * n + k) nil)) → each_below a (λ c. each_below n (f c)) ≡ texts_from text 0 xs
+pub nested_lines : {A : Type 0} (f : ℕ → ℕ → List ℕ) (text : ℕ → A → List ℕ) (nil : A) (a n : ℕ) (xs : List A)
+    → length xs ≡ a * n
+    → ((c k : ℕ) → c < a → k < n → f c k ≡ text (c * n + k) (get_or xs (c * n + k) nil))
+    → each_below a (λ c. each_below n (f c)) ≡ texts_from text 0 xs
 nested_lines f text nil a n xs e h =
     let z : 0 * n ≡ 0 = omega arith in
     blocks f (λ v. text v (get_or xs v nil)) n 0 a (λ c k lt lt'. h c k (omega arith) lt')

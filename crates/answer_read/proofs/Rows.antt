@@ -53,7 +53,8 @@ some_tail : (k : Tail) → (o : Option (List Constraint)) × IsWalkOr o × (tail
 some_tail tails.End = (None, tt, refl)
 some_tail tails.High = (Some a_walk.0, a_walk.1, refl)
 
-tail_rest_read : (k : Tail) (bytes : List ℕ) → Reads (λ o. IsWalkOr o × (tail_of o ≡ k)) after_tail Any bytes (tail_rest k bytes)
+tail_rest_read : (k : Tail) (bytes : List ℕ)
+    → Reads (λ o. IsWalkOr o × (tail_of o ≡ k)) after_tail Any bytes (tail_rest k bytes)
 unfolding tail_rest
 tail_rest_read tails.End bytes =
     retext (λ o. IsWalkOr o × (tail_of o ≡ tails.End)) (λ o. []) after_tail Any bytes (Ok (None, bytes)) texts
@@ -70,7 +71,8 @@ tail_rest_read tails.High bytes =
     made_reads IsWalk walk_line (λ o. IsWalkOr o × (tail_of o ≡ tails.High)) after_tail Any (λ w. Some w) bytes (walk_line_at bytes)
     (λ w f. ((f, refl), refl)) from (walk_line_read bytes)
   where
-    from : (o : Option (List Constraint)) (t : List ℕ) → IsWalkOr o × (tail_of o ≡ tails.High) → Any t → SameHead (after_tail o ++ t) bytes
+    from : (o : Option (List Constraint)) (t : List ℕ) → IsWalkOr o × (tail_of o ≡ tails.High) → Any t
+        → SameHead (after_tail o ++ t) bytes
         → (w : List Constraint) × IsWalk w × (Some w ≡ o)
     from (Some w) t f s h = (w, f.0, refl)
     from None t f s h = let e = f.1 in absurd cc
@@ -101,7 +103,8 @@ none_or_walk bytes true d =
     (word_reads (λ o. o ≡ None) left_text (λ o. []) Any (codes "none\n") bytes (λ rest. Ok (None, rest)) None refl (λ o e. ap left_text e)
     (λ rest e. done_reads (λ o. o ≡ None) Any rest None refl (λ o e. e)))
   where
-    from : (o : Option (List Constraint)) (t : List ℕ) → IsWalkOr o → Any t → SameHead (left_text o ++ t) bytes → o ≡ None
+    from : (o : Option (List Constraint)) (t : List ℕ) → IsWalkOr o → Any t → SameHead (left_text o ++ t) bytes
+        → o ≡ None
     from None t f s h = refl
     from (Some w) t f s h =
         let regrouped : (walk_text w ++ end) ++ t ≡ decimal (length w) ++ ((flat_map token_text w ++ end) ++ t) = simp append_assoc in
@@ -171,7 +174,8 @@ order_read bytes =
 abbrev FitsStuck : Bool → ℕ × ℕ → Type 0
 FitsStuck single p = IsStuckText single p.0 p.1
 
-stuck_read : (single : Bool) (bytes : List ℕ) → Reads (FitsStuck single) (λ p. stuck_text single p.0 p.1) Any bytes (stuck_at single bytes)
+stuck_read : (single : Bool) (bytes : List ℕ)
+    → Reads (FitsStuck single) (λ p. stuck_text single p.0 p.1) Any bytes (stuck_at single bytes)
 unfolding stuck_at
 stuck_read true bytes =
     made_reads (InRange 0 most_stage) (λ k. decimal k ++ end) (FitsStuck true) (λ p. decimal p.1 ++ end) Any (λ k. (0, k)) bytes
@@ -179,7 +183,8 @@ stuck_read true bytes =
     (worded_reads (InRange 0 most_stage) decimal NoDigit end (λ t. refl) bytes (number_at 0 most_stage bytes)
     (number_read 0 most_stage bytes (omega arith) (omega arith) (omega arith)))
   where
-    from : (p : ℕ × ℕ) (t : List ℕ) → FitsStuck true p → Any t → SameHead ((decimal p.1 ++ end) ++ t) bytes → (k : ℕ) × InRange 0 most_stage k × ((0, k) ≡ p)
+    from : (p : ℕ × ℕ) (t : List ℕ) → FitsStuck true p → Any t → SameHead ((decimal p.1 ++ end) ++ t) bytes
+        → (k : ℕ) × InRange 0 most_stage k × ((0, k) ≡ p)
     from p t f s h = let e : 0 ≡ p.0 = sym f.0 in (p.1, (omega arith, f.1), ap (λ (c : ℕ). (c, p.1)) e)
 stuck_read false bytes =
     made_same (worded_reads FitsPair text_of_pair NoDigit end (λ t. refl) bytes (pair_at bytes) (pair_read bytes))
@@ -395,7 +400,8 @@ rest_read single lines.Left inside bytes =
     from (rows.Left o) t f s h = (o, f.0, refl)
     from r t f s h = let e = f.1 in absurd cc
 
-kinds_read : (single : Bool) (bytes : List ℕ) → Reads (In (row_kinds single)) row_word Any bytes (kind_at row_word (row_kinds single) bytes)
+kinds_read : (single : Bool) (bytes : List ℕ)
+    → Reads (In (row_kinds single)) row_word Any bytes (kind_at row_word (row_kinds single) bytes)
 kinds_read true bytes =
     kind_read row_word lines.TankOrder (lines.HoistOrder ∷ lines.Assign ∷ lines.ClosedLow ∷ lines.ClosedHigh ∷ lines.Stuck ∷ lines.Solved ∷ lines.Left ∷ [])
     bytes (rows_apart single_kinds)

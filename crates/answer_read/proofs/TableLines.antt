@@ -88,7 +88,8 @@ pair_at_all most xs f i =
     (λ le. subst (Two most) (sym (get_or_past xs i (0, 0) le)) (no_two most))
     (cases_lt i (length xs))
 
-unzip_fits : (n most : ℕ) (xs : List (ℕ × ℕ)) → length xs ≡ n → AllFrom (λ i. Two most) 0 xs → FitsTwo n most (firsts xs, seconds xs)
+unzip_fits : (n most : ℕ) (xs : List (ℕ × ℕ)) → length xs ≡ n → AllFrom (λ i. Two most) 0 xs
+    → FitsTwo n most (firsts xs, seconds xs)
 unzip_fits n most xs e f = (
   length_firsts xs ∙ e,
   length_seconds xs ∙ e,
@@ -154,7 +155,8 @@ carrier_read c bytes =
 abbrev pub carriers_text : ℕ → List ℕ × List ℕ → List ℕ
 carriers_text n p = each_below n (λ c. carrier_text c (get_or p.0 c 0, get_or p.1 c 0))
 
-pub carriers_read : (n : ℕ) (bytes : List ℕ) → Reads (FitsTwo n last_tick) (carriers_text n) Any bytes (carriers_at n bytes)
+pub carriers_read : (n : ℕ) (bytes : List ℕ)
+    → Reads (FitsTwo n last_tick) (carriers_text n) Any bytes (carriers_at n bytes)
 unfolding carriers_at
 carriers_read n bytes =
     pairs_read carrier_text carrier_at n last_tick (carriers_text n) bytes carrier_read
@@ -176,7 +178,8 @@ move_of l n = numbered.move_at l n
 abbrev numbered_move : LineData → ℕ → ℕ × ℕ → List ℕ
 numbered_move l n p = move_text l (move_of l n).carrier (move_of l n).step p
 
-move_read : (l : LineData) (v : ℕ) (bytes : List ℕ) → IsLine l → Reads (Two (l.hoists - 1)) (numbered_move l v) Any bytes (move_at l v bytes)
+move_read : (l : LineData) (v : ℕ) (bytes : List ℕ) → IsLine l
+    → Reads (Two (l.hoists - 1)) (numbered_move l v) Any bytes (move_at l v bytes)
 unfolding move_at
 move_read l v bytes line =
     let F = Two (l.hoists - 1) in
@@ -196,7 +199,8 @@ abbrev pub moves_text : LineData → List ℕ × List ℕ → List ℕ
 moves_text l p =
     each_below l.degree (λ c. each_below (last_stage l) (λ k. move_text l c k (get_or p.0 (c * last_stage l + k) 0, get_or p.1 (c * last_stage l + k) 0)))
 
-pub moves_read : (l : LineData) (bytes : List ℕ) → IsLine l → Reads (FitsTwo (move_count l) (l.hoists - 1)) (moves_text l) Any bytes (moves_at l bytes)
+pub moves_read : (l : LineData) (bytes : List ℕ) → IsLine l
+    → Reads (FitsTwo (move_count l) (l.hoists - 1)) (moves_text l) Any bytes (moves_at l bytes)
 unfolding moves_at
 moves_read l bytes line =
     let n = last_stage l in
@@ -215,7 +219,8 @@ abbrev chosen_text : LineData → ℕ → ℕ → ℕ → List ℕ
 chosen_text l c k i = codes "choice " ++ (pair_text c k ++ (codes " " ++ (decimal (choice_number l k i) ++ end)))
 
 -- no tank stands twice in a stage
-number_is : (l : LineData) (k j : ℕ) → IsLine l → j < length (stage l k).tanks → choice_number l k (get_or (stage l k).tanks j 0) ≡ j
+number_is : (l : LineData) (k j : ℕ) → IsLine l → j < length (stage l k).tanks
+    → choice_number l k (get_or (stage l k).tanks j 0) ≡ j
 number_is l k j line lt =
     let tanks = (stage l k).tanks in
     position_or_len_is (λ m. eqb m (get_or tanks j 0)) tanks j 0 (omega (arith, lt))
@@ -226,7 +231,8 @@ number_is l k j line lt =
 place_in : (tanks : List ℕ) (i : ℕ) → Contains tanks i → (j : ℕ) × (j < length tanks) × (get_or tanks j 0 ≡ i)
 place_in tanks i (j, lt, e) = (j, lt, get_or_default tanks j 0 i lt ∙ e)
 
-several : (l : LineData) (k : ℕ) → IsLine l → IsStageOf l k → (1 ≤ length (stage l k).tanks) × (length (stage l k).tanks ≤ 4)
+several : (l : LineData) (k : ℕ) → IsLine l → IsStageOf l k
+    → (1 ≤ length (stage l k).tanks) × (length (stage l k).tanks ≤ 4)
 several l k line there = line.stages.count k there
 
 a_tank : (l : LineData) (k : ℕ) → IsLine l → IsStageOf l k → Serves l (get_or (stage l k).tanks 0 0) k
@@ -263,7 +269,8 @@ chosen_read l v bytes line there =
 abbrev pub choice_text : LineData → ℕ → ℕ → ℕ → List ℕ
 choice_text l c k i = cond (ltb 1 (length (stage l k).tanks)) (chosen_text l c k i) []
 
-choice_by : (l : LineData) (v : VisitId) (bytes : List ℕ) → IsLine l → IsStageOf l v.stage → (d : Bool) → ltb 1 (length (stage l v.stage).tanks) ≡ d
+choice_by : (l : LineData) (v : VisitId) (bytes : List ℕ) → IsLine l → IsStageOf l v.stage → (d : Bool)
+    → ltb 1 (length (stage l v.stage).tanks) ≡ d
     → Reads (λ i. Serves l i v.stage) (λ i. cond d (chosen_text l v.carrier v.stage i) []) Any bytes
     (cond d (chosen_at l v bytes) (Ok (get_or (stage l v.stage).tanks 0 0, bytes)))
 choice_by l v bytes line there true d = chosen_read l v bytes line there
@@ -286,7 +293,8 @@ IsOfVisit l n i = Serves l i (visit_at l n).stage
 stage_there : (l : LineData) (n : ℕ) → IsLine l → IsStageOf l (visit_at l n).stage
 stage_there l n line = mod_below n (length l.stages) (omega (arith, line.limits.stages.0))
 
-choice_read : (l : LineData) (n : ℕ) (bytes : List ℕ) → IsLine l → Reads (IsOfVisit l n) (visit_text l n) Any bytes (choice_at l n bytes)
+choice_read : (l : LineData) (n : ℕ) (bytes : List ℕ) → IsLine l
+    → Reads (IsOfVisit l n) (visit_text l n) Any bytes (choice_at l n bytes)
 unfolding choice_at
 choice_read l n bytes line =
     choice_by l (visit_at l n) bytes line (stage_there l n line) (ltb 1 (length (stage l (visit_at l n).stage).tanks)) refl
@@ -302,7 +310,8 @@ route_into l xs e f = record {
       subst (λ (m : ℕ). Serves l (get_or xs n 0) m) (ap (λ (m : ℕ). m % length l.stages) z ∙ mod-mul-add c (length l.stages) k visit.1) here;
 }
 
-route_from : (l : LineData) (xs : List ℕ) → IsLine l → IsRoute l xs → (length xs ≡ visit_count l) × AllFrom (IsOfVisit l) 0 xs
+route_from : (l : LineData) (xs : List ℕ) → IsLine l → IsRoute l xs
+    → (length xs ≡ visit_count l) × AllFrom (IsOfVisit l) 0 xs
 route_from l xs line r = (r.count, all_from (IsOfVisit l) 0 0 xs at)
   where
     at : (n : ℕ) → n < length xs → IsOfVisit l (0 + n) (get_or xs n 0)
@@ -333,7 +342,8 @@ some_route l line =
 choice_item : (l : LineData) → IsLine l → IsItem (IsOfVisit l) (visit_text l) Any (choice_at l) (first_tank l)
 choice_item l line = record { reads = λ n b. choice_read l n b line; stops = λ n a t f s. tt; nil_fits = nil_serves l line }
 
-pub choices_read : (l : LineData) (bytes : List ℕ) → IsLine l → Reads (IsRoute l) (choices_text l) Any bytes (choices_at l bytes)
+pub choices_read : (l : LineData) (bytes : List ℕ) → IsLine l
+    → Reads (IsRoute l) (choices_text l) Any bytes (choices_at l bytes)
 unfolding choices_at
 choices_read l bytes line =
     let n = length l.stages in
@@ -427,7 +437,8 @@ small_append xs ys f g i =
     (λ le. omega (arith, get_or-append_right xs ys (length xs) i 0 refl le, g (i - length xs)))
     (cases_lt i (length xs))
 
-joined_fits : (period i : ℕ) (rows : List (List ℕ)) → RowsFrom period i rows → FitsPath (length rows) period (concat rows)
+joined_fits : (period i : ℕ) (rows : List (List ℕ)) → RowsFrom period i rows
+    → FitsPath (length rows) period (concat rows)
 joined_fits period i [] f = (let z : 0 * period ≡ 0 = omega arith in sym z, λ j. omega arith)
 joined_fits period i (x ∷ rows) f =
     let r = joined_fits period (i + 1) rows f.1 in
@@ -445,7 +456,8 @@ joined_at period i (x ∷ rows) (suc h) t f lt lt' =
     ap (λ (k : ℕ). get_or (x ++ concat rows) k 0) m ∙ get_or-append_right x (concat rows) period (period + (h * period + t)) 0 f.0.0 (omega arith)
     ∙ ap (λ (k : ℕ). get_or (concat rows) k 0) n ∙ joined_at period (i + 1) rows h t f.1 (omega arith) lt'
 
-row_length : (period : ℕ) (rows : List (List ℕ)) (h : ℕ) → Rows period rows → h < length rows → length (get_or rows h []) ≡ period
+row_length : (period : ℕ) (rows : List (List ℕ)) (h : ℕ) → Rows period rows → h < length rows
+    → length (get_or rows h []) ≡ period
 row_length period rows h f lt = (all_at (λ i. IsPathRow period) [] 0 rows f h lt).0
 
 joined_text : (hoists period : ℕ) (rows : List (List ℕ)) → length rows ≡ hoists → Rows period rows
@@ -492,7 +504,8 @@ cut_is (suc n) period i xs e f =
     let r = cut_is n period (i + 1) (drop period xs) rest (small_drop period xs le f) in
     (ap suc r.0, ((length-take-le period xs le, small_take period xs le f), r.1), ap (λ (ys : List ℕ). take period xs ++ ys) r.2 ∙ take-append-drop period xs)
 
-pub paths_read : (hoists period : ℕ) (bytes : List ℕ) → Reads (FitsPath hoists period) (paths_text hoists period) Any bytes (paths_at hoists period bytes)
+pub paths_read : (hoists period : ℕ) (bytes : List ℕ)
+    → Reads (FitsPath hoists period) (paths_text hoists period) Any bytes (paths_at hoists period bytes)
 unfolding paths_at
 paths_read hoists period bytes =
     made_reads (λ rows. (length rows ≡ hoists) × Rows period rows) (λ rows. texts_from row_path 0 rows) (FitsPath hoists period)

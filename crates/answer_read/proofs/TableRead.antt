@@ -26,7 +26,8 @@ use Rattle.answer_read.proofs.TableLines.{moves_read, FitsPath, paths_text, path
 abbrev pub IsTable : LineData → TimetableData → Type 0
 IsTable l d = IsTimetableOf l d × HasSmallPath d
 
-is_table : (l : LineData) (n : ℕ) (p : List ℕ × List ℕ) (tanks : List ℕ) (m : List ℕ × List ℕ) (xs : List ℕ) → IsLine l → InRange 1 most_period n
+is_table : (l : LineData) (n : ℕ) (p : List ℕ × List ℕ) (tanks : List ℕ) (m : List ℕ × List ℕ) (xs : List ℕ) → IsLine l
+    → InRange 1 most_period n
     → FitsTwo l.degree last_tick p → IsRoute l tanks → FitsTwo (move_count l) (l.hoists - 1) m → FitsPath l.hoists n xs
     → IsTable l (table_of l n p tanks m xs)
 is_table l n p tanks m xs line period carriers route moves path = (
@@ -102,7 +103,8 @@ t1 l d = each_below l.degree (carrier_line (timetable_of d)) ++ t2 l d
 abbrev t0 : LineData → TimetableData → List ℕ
 t0 l d = table_text l (timetable_of d)
 
-same_parts : (l : LineData) (n : ℕ) (p : List ℕ × List ℕ) (tanks : List ℕ) (m : List ℕ × List ℕ) (d : TimetableData) → F4 l n p tanks m d
+same_parts : (l : LineData) (n : ℕ) (p : List ℕ × List ℕ) (tanks : List ℕ) (m : List ℕ × List ℕ) (d : TimetableData)
+    → F4 l n p tanks m d
     → table_of l n p tanks m d.path ≡ d
 same_parts l n p tanks m d f =
     let steps : last_stage l ≡ d.steps = sym f.0.0.0.0.0.fits.steps in
@@ -128,7 +130,8 @@ moves_same l d f =
     ap (λ (s : ℕ). each_below l.degree (λ c. each_below (last_stage l) (λ k. move_text l c k (get_or d.start (c * s + k) 0, get_or d.hoist (c * s + k) 0)))
     ++ t4 l d) f.0.fits.steps
 
-last_read : (l : LineData) (n : ℕ) (p : List ℕ × List ℕ) (tanks : List ℕ) (m : List ℕ × List ℕ) (bytes : List ℕ) → IsLine l → InRange 1 most_period n
+last_read : (l : LineData) (n : ℕ) (p : List ℕ × List ℕ) (tanks : List ℕ) (m : List ℕ × List ℕ) (bytes : List ℕ)
+    → IsLine l → InRange 1 most_period n
     → FitsTwo l.degree last_tick p → IsRoute l tanks → FitsTwo (move_count l) (l.hoists - 1) m
     → Reads (F4 l n p tanks m) (t4 l) Any bytes (paths_at l.hoists n bytes >>= λ x. Ok (table_of l n p tanks m x.0, x.1))
 last_read l n p tanks m bytes line period carriers route moves =
@@ -233,7 +236,8 @@ none_or_table l bytes line true d =
     (word_reads (λ o. o ≡ None) (timetable_text l) (λ o. []) Any (codes "none\n") bytes (λ rest. Ok (None, rest)) None refl (λ o e. ap (timetable_text l) e)
     (λ rest e. done_reads (λ o. o ≡ None) Any rest None refl (λ o e. e)))
   where
-    from : (o : Option TimetableData) (t : List ℕ) → IsTableOr l o → Any t → SameHead (timetable_text l o ++ t) bytes → o ≡ None
+    from : (o : Option TimetableData) (t : List ℕ) → IsTableOr l o → Any t → SameHead (timetable_text l o ++ t) bytes
+        → o ≡ None
     from None t f s h = refl
     from (Some p) t f s h =
         let regrouped : t0 l p ++ t ≡ decimal p.period ++ ((end ++ t1 l p) ++ t) = append_assoc (decimal p.period) (end ++ t1 l p) t in
@@ -250,19 +254,23 @@ none_or_table l bytes line false d =
     from (Some p) t f s h = (p, f, refl)
     from None t f s h = absurd (not_n bytes t h d)
 
-pub timetable_read : (l : LineData) (bytes : List ℕ) → IsLine l → Reads (IsTableOr l) (timetable_text l) Any bytes (timetable_at l bytes)
+pub timetable_read : (l : LineData) (bytes : List ℕ) → IsLine l
+    → Reads (IsTableOr l) (timetable_text l) Any bytes (timetable_at l bytes)
 unfolding timetable_at
 timetable_read l bytes line = none_or_table l bytes line (begins 110 bytes) refl
 
 -- ---- what the code has read is a timetable of the line
 
 pub table_ok : (l : LineData) (bytes a b c d e rest : List ℕ) (n : ℕ) (p : List ℕ × List ℕ) (tanks : List ℕ) (m : List ℕ × List ℕ) (xs : List ℕ)
-    → number_at 1 most_period bytes ≡ Ok (n, a) → word_at end a ≡ Ok b → carriers_at l.degree b ≡ Ok (p, c) → choices_at l c ≡ Ok (tanks, d)
-    → moves_at l d ≡ Ok (m, e) → paths_at l.hoists n e ≡ Ok (xs, rest) → table_at l bytes ≡ Ok (table_of l n p tanks m xs, rest)
+    → number_at 1 most_period bytes ≡ Ok (n, a) → word_at end a ≡ Ok b → carriers_at l.degree b ≡ Ok (p, c)
+    → choices_at l c ≡ Ok (tanks, d)
+    → moves_at l d ≡ Ok (m, e) → paths_at l.hoists n e ≡ Ok (xs, rest)
+    → table_at l bytes ≡ Ok (table_of l n p tanks m xs, rest)
 unfolding table_at
 table_ok l bytes a b c d e rest n p tanks m xs h1 h2 h3 h4 h5 h6 = rw (h1, h2, h3, h4, h5, h6) refl
 
-pub table_fits : (l : LineData) (bytes rest : List ℕ) (d : TimetableData) → IsLine l → table_at l bytes ≡ Ok (d, rest) → IsTimetableOf l d
+pub table_fits : (l : LineData) (bytes rest : List ℕ) (d : TimetableData) → IsLine l → table_at l bytes ≡ Ok (d, rest)
+    → IsTimetableOf l d
 table_fits l bytes rest d line e =
     let h : IsRead (IsTable l) (t0 l) Any bytes d rest =
     subst (λ (r : Result (TimetableData × List ℕ) ℕ). Reads (IsTable l) (t0 l) Any bytes r) e (table_read l bytes line) in

@@ -21,7 +21,8 @@ use Rattle.answer_read.proofs.Orders.{HaveLines, rows_in, lines_of}
 abbrev told : Row → Node
 told row = unnumbered (node_of row 0)
 
-zeros : (question : Question) (n m : ℕ) → n ≡ m → Split question (replicate n 0) ≡ Split question (replicate (length (numbers_from 0 m)) 0)
+zeros : (question : Question) (n m : ℕ) → n ≡ m
+    → Split question (replicate n 0) ≡ Split question (replicate (length (numbers_from 0 m)) 0)
 zeros question n m e = ap (λ (k : ℕ). Split question (replicate k 0)) (e ∙ sym (length-numbers_from 0 m))
 
 node_told : (single : Bool) (n : Node) → IsNodeText single n → unnumbered n ≡ told (row_of n)
@@ -36,7 +37,8 @@ node_told single (Stuck m) f = refl
 node_told single (Solved low) f = refl
 node_told single (Left low) f = refl
 
-told_in : (single : Bool) (nodes : List Node) (order : List ℕ) → HaveLines single nodes → All (λ i. i < length nodes) order
+told_in : (single : Bool) (nodes : List Node) (order : List ℕ) → HaveLines single nodes
+    → All (λ i. i < length nodes) order
     → map (λ i. unnumbered (node_at nodes i)) order ≡ map told (rows_in nodes order)
 told_in single nodes [] fits there = refl
 told_in single nodes (i ∷ order) fits there =
@@ -45,7 +47,8 @@ told_in single nodes (i ∷ order) fits there =
     ap (λ (n : Node). n ∷ map (λ k. unnumbered (node_at nodes k)) order) first ∙ ap (λ (ns : List Node). told (row_of (node_at nodes i)) ∷ ns) rest
 
 -- trees with the same lines say the same
-pub same_said : (single : Bool) (nodes others : List Node) → IsTree nodes → IsTree others → HaveLines single nodes → HaveLines single others
+pub same_said : (single : Bool) (nodes others : List Node) → IsTree nodes → IsTree others → HaveLines single nodes
+    → HaveLines single others
     → lines_of nodes ≡ lines_of others → said nodes ≡ said others
 same_said single nodes others tree twin fits too e =
     told_in single nodes (preorder nodes) fits (preorder_there nodes tree)

@@ -94,14 +94,16 @@ rest_read tokens.Min bytes =
     made_reads FitsPair text_of_pair (Token tokens.Min) after_word NoDigit (λ p. Min p.0 p.1) bytes (pair_at bytes)
     (λ p f. (((f.0.1, f.1.1), refl), refl)) from (pair_read bytes)
   where
-    from : (t : Constraint) (x : List ℕ) → Token tokens.Min t → NoDigit x → SameHead (after_word t ++ x) bytes → (p : ℕ × ℕ) × FitsPair p × (Min p.0 p.1 ≡ t)
+    from : (t : Constraint) (x : List ℕ) → Token tokens.Min t → NoDigit x → SameHead (after_word t ++ x) bytes
+        → (p : ℕ × ℕ) × FitsPair p × (Min p.0 p.1 ≡ t)
     from (Min c k) x f s h = ((c, k), ((omega arith, f.0.0), (omega arith, f.0.1)), refl)
     from t x f s h = let e = f.1 in absurd cc
 rest_read tokens.Max bytes =
     made_reads FitsPair text_of_pair (Token tokens.Max) after_word NoDigit (λ p. Max p.0 p.1) bytes (pair_at bytes)
     (λ p f. (((f.0.1, f.1.1), refl), refl)) from (pair_read bytes)
   where
-    from : (t : Constraint) (x : List ℕ) → Token tokens.Max t → NoDigit x → SameHead (after_word t ++ x) bytes → (p : ℕ × ℕ) × FitsPair p × (Max p.0 p.1 ≡ t)
+    from : (t : Constraint) (x : List ℕ) → Token tokens.Max t → NoDigit x → SameHead (after_word t ++ x) bytes
+        → (p : ℕ × ℕ) × FitsPair p × (Max p.0 p.1 ≡ t)
     from (Max c k) x f s h = ((c, k), ((omega arith, f.0.0), (omega arith, f.0.1)), refl)
     from t x f s h = let e = f.1 in absurd cc
 rest_read tokens.Entry bytes =

@@ -58,7 +58,8 @@ verdicts_apart j k t y f g e = absurd (apart_is (verdict_text j) (verdict_text k
 abbrev verdict_part : Bool → Verdict → List ℕ
 verdict_part single v = version_text single ++ (codes "verdict " ++ verdict_text v)
 
-verdict_read : (single : Bool) (bytes : List ℕ) → Reads (In verdicts) (verdict_part single) Any bytes (verdict_at single bytes)
+verdict_read : (single : Bool) (bytes : List ℕ)
+    → Reads (In verdicts) (verdict_part single) Any bytes (verdict_at single bytes)
 unfolding verdict_at
 verdict_read single bytes =
     word_reads (In verdicts) (verdict_part single) (λ v. codes "verdict " ++ verdict_text v) Any (version_text single) bytes _ Optimal (inl refl) (λ v f. refl)
@@ -89,7 +90,8 @@ numbers_read bytes =
 abbrev table_part : LineData → Option TimetableData → List ℕ
 table_part l o = codes "\ntimetable " ++ timetable_text l o
 
-table_part_read : (l : LineData) (bytes : List ℕ) → IsLine l → Reads (IsTableOr l) (table_part l) Any bytes (table_part_at l bytes)
+table_part_read : (l : LineData) (bytes : List ℕ) → IsLine l
+    → Reads (IsTableOr l) (table_part l) Any bytes (table_part_at l bytes)
 unfolding table_part_at
 table_part_read l bytes line =
     word_reads (IsTableOr l) (table_part l) (timetable_text l) Any (codes "\ntimetable ") bytes (λ a. timetable_at l a) None tt (λ o f. refl)
@@ -155,7 +157,8 @@ G2 l most v n p = G1 l most v p × ((p.bound, p.splits) ≡ n)
 abbrev G3 : LineData → ℕ → Verdict → ℕ × ℕ → Option TimetableData → Parts → Type 0
 G3 l most v n t p = G2 l most v n p × (p.timetable ≡ t)
 
-same_made : (l : LineData) (most : ℕ) (v : Verdict) (n : ℕ × ℕ) (t : Option TimetableData) (p : Parts) → G3 l most v n t p → made v n t p.lines ≡ p
+same_made : (l : LineData) (most : ℕ) (v : Verdict) (n : ℕ × ℕ) (t : Option TimetableData) (p : Parts)
+    → G3 l most v n t p → made v n t p.lines ≡ p
 same_made l most v n t p f =
     ap (λ (x : Verdict). made x n t p.lines) (sym f.0.0.1) ∙ ap (λ (x : ℕ × ℕ). made p.verdict x t p.lines) (sym f.0.1)
     ∙ ap (λ (x : Option TimetableData). made p.verdict (p.bound, p.splits) x p.lines) (sym f.1)
@@ -248,7 +251,8 @@ answer_again l p f =
       ap (text_round l p.verdict p.bound p.splits p.timetable) again.0,
     )
 
-parts_fit : (l : LineData) (most : ℕ) (a : Answer) → IsAnswer l a → length (lines_of a.tree) ≤ most → FitsParts l most (parts_of a)
+parts_fit : (l : LineData) (most : ℕ) (a : Answer) → IsAnswer l a → length (lines_of a.tree) ≤ most
+    → FitsParts l most (parts_of a)
 parts_fit l most a f few =
     let r = lines_are_rows (is_single l) a.tree f.tree f.writable.nodes in
     ((f.writable.bound, (omega arith, f.writable.splits)), f.writable.timetable, (r.0, r.1, omega arith))
@@ -263,13 +267,15 @@ abbrev enough_for : List ℕ → Answer → ℕ
 enough_for bytes a = length bytes + 7 + length (lines_of a.tree)
 
 -- what was read, with whatever bound of the lines
-read_with : (l : LineData) (bytes : List ℕ) (r : Result (Parts × List ℕ) ℕ) → IsLine l → lines_at l bytes ≡ r → (most : ℕ) → length bytes + 7 ≤ most
+read_with : (l : LineData) (bytes : List ℕ) (r : Result (Parts × List ℕ) ℕ) → IsLine l → lines_at l bytes ≡ r
+    → (most : ℕ) → length bytes + 7 ≤ most
     → Reads (FitsParts l most) (parts_text l) Any bytes r
 read_with l bytes r line e most room =
     subst (λ (q : Result (Parts × List ℕ) ℕ). Reads (FitsParts l most) (parts_text l) Any bytes q) e (lines_read l most bytes line room)
 
 -- the text of an answer, where it is cut as that of its parts
-parts_cut : (l : LineData) (a : Answer) (front y : List ℕ) → IsAnswer l a → answer_text l a ≡ front ++ y → parts_text l (parts_of a) ++ [] ≡ front ++ y
+parts_cut : (l : LineData) (a : Answer) (front y : List ℕ) → IsAnswer l a → answer_text l a ≡ front ++ y
+    → parts_text l (parts_of a) ++ [] ≡ front ++ y
 parts_cut l a front y f e = append-nil (parts_text l (parts_of a)) ∙ sym (parts_text_is l a f) ∙ e
 
 -- reading broke off
@@ -289,7 +295,8 @@ is_broken l bytes left line few e =
     (subst (SameHead y) (sym cut.1) same))
 
 -- something stands behind the answer
-is_more : (l : LineData) (bytes rest : List ℕ) (p : Parts) → IsLine l → length bytes ≤ 2 ^ 30 → lines_at l bytes ≡ Ok (p, rest) → 0 < length rest
+is_more : (l : LineData) (bytes rest : List ℕ) (p : Parts) → IsLine l → length bytes ≤ 2 ^ 30
+    → lines_at l bytes ≡ Ok (p, rest) → 0 < length rest
     → BreaksAt l bytes (length bytes - length rest)
 is_more l bytes rest p line few e some =
     let read = read_with l bytes (Ok (p, rest)) line e in
@@ -306,7 +313,8 @@ is_more l bytes rest p line few e some =
     not_empty rest y some (omega (arith, ap length text, length-append (parts_text l p) y)) same)
 
 -- all was read
-is_whole : (l : LineData) (bytes : List ℕ) (p : Parts) → IsLine l → length bytes ≤ 2 ^ 30 → lines_at l bytes ≡ Ok (p, []) → IsTextOf l bytes (answer_of p)
+is_whole : (l : LineData) (bytes : List ℕ) (p : Parts) → IsLine l → length bytes ≤ 2 ^ 30
+    → lines_at l bytes ≡ Ok (p, []) → IsTextOf l bytes (answer_of p)
 is_whole l bytes p line few e =
     let h = read_with l bytes (Ok (p, [])) line e most_nodes (omega (arith, few)) in
     let again = answer_again l p h.fits in
@@ -314,7 +322,8 @@ is_whole l bytes p line few e =
 
 -- ---- with the lines as a tree
 
-bind_both : {A B C : Type 0} (r : Result A ℕ) (f : A → Result C ℕ) (g : A → Result B ℕ) (h : B → Result C ℕ) → ((x : A) → f x ≡ (g x >>= h))
+bind_both : {A B C : Type 0} (r : Result A ℕ) (f : A → Result C ℕ) (g : A → Result B ℕ) (h : B → Result C ℕ)
+    → ((x : A) → f x ≡ (g x >>= h))
     → (r >>= f) ≡ ((r >>= g) >>= h)
 bind_both (Ok x) f g h e = e x
 bind_both (Err left) f g h e = refl
@@ -329,11 +338,13 @@ tree_part_is single bytes =
     (λ a. rows_at single a >>= λ x. word_at (codes "end\n") x.1 >>= λ rest. Ok (x.0, rest)) planted
     (λ a. by_rows (rows_at single a))
   where
-    words : (lines : List Row) (r : Result (List ℕ) ℕ) → (r >>= λ rest. Ok (tree_of lines, rest)) ≡ ((r >>= λ rest. Ok (lines, rest)) >>= planted)
+    words : (lines : List Row) (r : Result (List ℕ) ℕ)
+        → (r >>= λ rest. Ok (tree_of lines, rest)) ≡ ((r >>= λ rest. Ok (lines, rest)) >>= planted)
     words lines (Ok rest) = refl
     words lines (Err left) = refl
 
-    by_rows : (r : Result (List Row × List ℕ) ℕ) → ((r >>= planted) >>= λ x. word_at (codes "end\n") x.1 >>= λ rest. Ok (x.0, rest)) ≡
+    by_rows : (r : Result (List Row × List ℕ) ℕ)
+        → ((r >>= planted) >>= λ x. word_at (codes "end\n") x.1 >>= λ rest. Ok (x.0, rest)) ≡
         ((r >>= λ x. word_at (codes "end\n") x.1 >>= λ rest. Ok (x.0, rest)) >>= planted)
     by_rows (Ok x) = words x.0 (word_at (codes "end\n") x.1)
     by_rows (Err left) = refl
@@ -362,7 +373,8 @@ answer_is l bytes =
     (λ v. bind_both (numbers_at v.1) _ _ answered (λ n. bind_both (table_part_at l n.1) _ _ answered (λ t. last_step l v.0 n.0 t.0 t.1)))
 
 -- how an answer came
-came : (r : Result (Parts × List ℕ) ℕ) (a : Answer) (rest : List ℕ) → (r >>= answered) ≡ Ok (a, rest) → (p : Parts) × (r ≡ Ok (p, rest)) × (a ≡ answer_of p)
+came : (r : Result (Parts × List ℕ) ℕ) (a : Answer) (rest : List ℕ) → (r >>= answered) ≡ Ok (a, rest)
+    → (p : Parts) × (r ≡ Ok (p, rest)) × (a ≡ answer_of p)
 came (Ok x) a rest e =
     let p : (answer_of x.0, x.1) ≡ (a, rest) = cc in
     let b : answer_of x.0 ≡ a = ap (λ (y : Answer × List ℕ). y.0) p in
@@ -374,24 +386,28 @@ broke : (r : Result (Parts × List ℕ) ℕ) (left : ℕ) → (r >>= answered) �
 broke (Ok x) left e = absurd cc
 broke (Err other) left e = let p : other ≡ left = cc in ap (λ (k : ℕ). Err k) p
 
-pub text_found : (l : LineData) (bytes rest : List ℕ) (a : Answer) → IsLine l → length bytes ≤ 2 ^ 30 → answer_at l bytes ≡ Ok (a, rest) → length rest ≡ 0
+pub text_found : (l : LineData) (bytes rest : List ℕ) (a : Answer) → IsLine l → length bytes ≤ 2 ^ 30
+    → answer_at l bytes ≡ Ok (a, rest) → length rest ≡ 0
     → IsTextOf l bytes a
 text_found l bytes rest a line few e none =
     let c = came (lines_at l bytes) a rest (sym (answer_is l bytes) ∙ e) in
     subst (IsTextOf l bytes) (sym c.2) (is_whole l bytes c.0 line few (c.1 ∙ ap (λ (x : List ℕ). Ok (c.0, x)) (nil_from_length rest none)))
 
-pub more_found : (l : LineData) (bytes rest : List ℕ) (a : Answer) → IsLine l → length bytes ≤ 2 ^ 30 → answer_at l bytes ≡ Ok (a, rest) → 0 < length rest
+pub more_found : (l : LineData) (bytes rest : List ℕ) (a : Answer) → IsLine l → length bytes ≤ 2 ^ 30
+    → answer_at l bytes ≡ Ok (a, rest) → 0 < length rest
     → BreaksAt l bytes (length bytes - length rest)
 more_found l bytes rest a line few e some =
     let c = came (lines_at l bytes) a rest (sym (answer_is l bytes) ∙ e) in
     is_more l bytes rest c.0 line few c.1 some
 
-pub break_found : (l : LineData) (bytes : List ℕ) (left : ℕ) → IsLine l → length bytes ≤ 2 ^ 30 → answer_at l bytes ≡ Err left
+pub break_found : (l : LineData) (bytes : List ℕ) (left : ℕ) → IsLine l → length bytes ≤ 2 ^ 30
+    → answer_at l bytes ≡ Err left
     → BreaksAt l bytes (length bytes - left)
 break_found l bytes left line few e = is_broken l bytes left line few (broke (lines_at l bytes) left (sym (answer_is l bytes) ∙ e))
 
 -- the text of an answer is read as that answer
-pub text_read : (l : LineData) (bytes : List ℕ) (a : Answer) → IsLine l → IsTextOf l bytes a → answer_at l bytes ≡ Ok (a, [])
+pub text_read : (l : LineData) (bytes : List ℕ) (a : Answer) → IsLine l → IsTextOf l bytes a
+    → answer_at l bytes ≡ Ok (a, [])
 text_read l bytes a line h =
     let most = enough_for bytes a in
     let fits = parts_fit l most a h.answer (omega arith) in
@@ -404,7 +420,8 @@ text_read l bytes a line h =
     answer_is l bytes ∙ ap (λ (r : Result (Parts × List ℕ) ℕ). r >>= answered) found ∙ ap (λ (x : Answer). Ok (x, [])) same
 
 -- answers with one text say the same
-pub same_text : (l : LineData) (a b : Answer) → IsLine l → IsAnswer l a → IsAnswer l b → answer_text l a ≡ answer_text l b → SayTheSame a b
+pub same_text : (l : LineData) (a b : Answer) → IsLine l → IsAnswer l a → IsAnswer l b
+    → answer_text l a ≡ answer_text l b → SayTheSame a b
 same_text l a b line f g e =
     let bytes = answer_text l a in
     let most = length (lines_of a.tree) + length (lines_of b.tree) + length bytes + 7 in
@@ -424,7 +441,8 @@ same_text l a b line f g e =
           same_said (is_single l) a.tree b.tree f.tree g.tree f.writable.nodes g.writable.nodes (ap (λ (x : Parts). x.lines) parts);
     }
 
-pub same_read : (l : LineData) (bytes rest : List ℕ) (a b : Answer) → IsLine l → answer_at l bytes ≡ Ok (a, rest) → IsTextOf l bytes b
+pub same_read : (l : LineData) (bytes rest : List ℕ) (a b : Answer) → IsLine l → answer_at l bytes ≡ Ok (a, rest)
+    → IsTextOf l bytes b
     → (a ≡ b) × (length rest ≡ 0)
 same_read l bytes rest a b line e h =
     let both : Ok (a, rest) ≡ Ok (b, []) = sym e ∙ text_read l bytes b line h in
@@ -434,22 +452,26 @@ same_read l bytes rest a b line e h =
 not_both : (r : Result (Answer × List ℕ) ℕ) (left : ℕ) (x : Answer × List ℕ) → r ≡ Err left → r ≡ Ok x → ⊥
 not_both r left x e f = let both : Err left ≡ Ok x = sym e ∙ f in absurd cc
 
-pub never_broken : (l : LineData) (bytes : List ℕ) (left : ℕ) (a : Answer) → IsLine l → answer_at l bytes ≡ Err left → IsTextOf l bytes a → ⊥
+pub never_broken : (l : LineData) (bytes : List ℕ) (left : ℕ) (a : Answer) → IsLine l → answer_at l bytes ≡ Err left
+    → IsTextOf l bytes a → ⊥
 never_broken l bytes left a line e h = not_both (answer_at l bytes) left (a, []) e (text_read l bytes a line h)
 
-pub broken_is : (s : Stop) (left : ℕ) (r : Result (Answer × List ℕ) ℕ) → s ≡ stops.Broken left → Fails s r → r ≡ Err left
+pub broken_is : (s : Stop) (left : ℕ) (r : Result (Answer × List ℕ) ℕ) → s ≡ stops.Broken left → Fails s r
+    → r ≡ Err left
 broken_is stops.Memory left r e f = absurd cc
 broken_is (stops.Broken k) left r e f = let p : k ≡ left = cc in f ∙ ap (λ (x : ℕ). Err x) p
 
 -- ---- what is left is no longer than what there was
 
-pub verdict_shorter : (single : Bool) (bytes rest : List ℕ) (v : Verdict) → verdict_at single bytes ≡ Ok (v, rest) → length rest ≤ length bytes
+pub verdict_shorter : (single : Bool) (bytes rest : List ℕ) (v : Verdict) → verdict_at single bytes ≡ Ok (v, rest)
+    → length rest ≤ length bytes
 verdict_shorter single bytes rest v e =
     rest_shorter (In verdicts) (verdict_part single) Any bytes (verdict_at single bytes) v rest (verdict_read single bytes) e
 
 pub numbers_shorter : (bytes rest : List ℕ) (p : ℕ × ℕ) → numbers_at bytes ≡ Ok (p, rest) → length rest ≤ length bytes
 numbers_shorter bytes rest p e = rest_shorter FitsNumbers numbers_part NoDigit bytes (numbers_at bytes) p rest (numbers_read bytes) e
 
-pub table_shorter : (l : LineData) (bytes rest : List ℕ) (o : Option TimetableData) → IsLine l → table_part_at l bytes ≡ Ok (o, rest)
+pub table_shorter : (l : LineData) (bytes rest : List ℕ) (o : Option TimetableData) → IsLine l
+    → table_part_at l bytes ≡ Ok (o, rest)
     → length rest ≤ length bytes
 table_shorter l bytes rest o line e = rest_shorter (IsTableOr l) (table_part l) Any bytes (table_part_at l bytes) o rest (table_part_read l bytes line) e

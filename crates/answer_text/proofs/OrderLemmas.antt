@@ -18,7 +18,8 @@ child_there : (nodes : List Node) (i m : ℕ) → IsTree nodes → m < length (c
 child_there nodes i m tree there =
     (tree.later i m (get_or (children_of (node_at nodes i)) m 0) (record { there = there; child = refl })).1
 
-below_there : (nodes : List Node) (depth i : ℕ) → IsTree nodes → i < length nodes → All (λ j. j < length nodes) (preorder_below depth nodes i)
+below_there : (nodes : List Node) (depth i : ℕ) → IsTree nodes → i < length nodes
+    → All (λ j. j < length nodes) (preorder_below depth nodes i)
 below_there nodes zero i tree lt = All-from_get_or (λ j. j < length nodes) [] 0 (λ k past. absurd (omega (arith, past)))
 below_there nodes (suc depth) i tree lt =
     let kids = children_of (node_at nodes i) in

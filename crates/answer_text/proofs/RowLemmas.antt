@@ -17,7 +17,8 @@ each_more n line =
     ∙ ap (λ (xs : List ℕ). each_below n line ++ xs) (append-nil (line n))
 
 -- one line more behind what was there
-pub one_more : (old text new : List ℕ) (n : ℕ) (line : ℕ → List ℕ) → text ≡ old ++ each_below n line → new ≡ text ++ line n
+pub one_more : (old text new : List ℕ) (n : ℕ) (line : ℕ → List ℕ) → text ≡ old ++ each_below n line
+    → new ≡ text ++ line n
     → new ≡ old ++ each_below (n + 1) line
 one_more old text new n line before after =
     after ∙ ap (λ (xs : List ℕ). xs ++ line n) before ∙ append_assoc old (each_below n line) (line n)

@@ -29,7 +29,8 @@ text_by l a single =
     ++ (tree_text single a.tree
     ++ codes "end\n"))))))))))
 
-pub whole : (l : LineData) (a : Answer) (single : Bool) (none head numbers table tree : List ℕ) → single ≡ is_single l → none ≡ []
+pub whole : (l : LineData) (a : Answer) (single : Bool) (none head numbers table tree : List ℕ) → single ≡ is_single l
+    → none ≡ []
     → head ≡ none ++ (version_text single ++ (codes "verdict " ++ (verdict_text a.verdict ++ codes "\nbound ")))
     → numbers ≡ head ++ (decimal a.bound ++ (codes "\nsplits " ++ (decimal a.splits ++ codes "\ntimetable ")))
     → table ≡ numbers ++ timetable_text l a.timetable

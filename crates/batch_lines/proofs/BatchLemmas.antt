@@ -22,7 +22,8 @@ use Rattle.batch_lines.specs.OneLemmas.{single_is_one}
 abbrev Solved : ℕ → LineData → Single → Type 0
 Solved budget l single = IsLine l × IsSingle l budget single
 
-pub singles_of : (budget : ℕ) (lines : List LineData) (singles : List Single) → AreAnswers (Solved budget) lines singles → AreSingles lines budget singles
+pub singles_of : (budget : ℕ) (lines : List LineData) (singles : List Single) → AreAnswers (Solved budget) lines singles
+    → AreSingles lines budget singles
 singles_of budget [] [] are = tt
 singles_of budget [] (single ∷ singles) are = absurd (omega (arith, are.0))
 singles_of budget (l ∷ lines) [] are = absurd (omega (arith, are.0))
@@ -41,7 +42,8 @@ lines_counted [] = refl
 lines_counted (Ready l ∷ reads) = omega (arith, lines_counted reads)
 lines_counted (Refused why ∷ reads) = lines_counted reads
 
-pub parts_are : (budget : ℕ) (reads : List LineRead) (singles : List Single) → AreSingles (lines_of reads) budget singles
+pub parts_are : (budget : ℕ) (reads : List LineRead) (singles : List Single)
+    → AreSingles (lines_of reads) budget singles
     → AllZip (IsPart budget) reads (parts_of (map why_of reads) singles)
 parts_are budget [] singles are = tt
 parts_are budget (Refused why ∷ reads) singles are = (refl, parts_are budget reads singles are)
@@ -55,7 +57,8 @@ lines_fewer (Refused why ∷ reads) = omega (arith, lines_fewer reads)
 
 -- as many singles as files that are lines
 pub singles_counted : (budget : ℕ) (reads : List LineRead) (lines : List LineData) (whys : List (Option Why)) (singles singles' : List Single)
-    → lines ≡ lines_of reads → whys ≡ map why_of reads → singles ≡ singles' → AreSingles lines budget singles' → count_lines whys ≡ length singles
+    → lines ≡ lines_of reads → whys ≡ map why_of reads → singles ≡ singles' → AreSingles lines budget singles'
+    → count_lines whys ≡ length singles
 singles_counted budget reads lines whys singles singles' lines_are whys_are same are =
     let long = AllZip-long (λ l single. IsSingle l budget single) lines singles' are in
     omega (arith, ap count_lines whys_are, lines_counted reads, ap length lines_are, ap length same, long)
@@ -63,7 +66,8 @@ singles_counted budget reads lines whys singles singles' lines_are whys_are same
 -- the text with the parts of the files, and how many there are
 pub batch_text_is : (budget : ℕ) (reads : List LineRead) (lines : List LineData) (whys : List (Option Why)) (singles singles' : List Single) (n : ℕ)
     (text a b new : List ℕ) → lines ≡ lines_of reads → whys ≡ map why_of reads → singles ≡ singles' → AreSingles lines budget singles'
-    → text ≡ [] → a ≡ text ++ parts_text 0 (parts_of whys singles) → b ≡ a ++ (codes "done " ++ decimal n) → new ≡ b ++ end → n ≡ length whys
+    → text ≡ [] → a ≡ text ++ parts_text 0 (parts_of whys singles) → b ≡ a ++ (codes "done " ++ decimal n)
+    → new ≡ b ++ end → n ≡ length whys
     → IsBatchText budget reads new
 batch_text_is budget reads lines whys singles singles' n text a b new lines_are whys_are same are none a_is b_is new_is n_is =
     let parts = parts_of (map why_of reads) singles' in
@@ -92,7 +96,8 @@ singles_are_one (l ∷ ls) budget (s ∷ ss) (t ∷ ts) lines small are are' =
     let rest = singles_are_one ls budget ss ts (All-tail IsLine l ls lines) small are.1 are'.1 in
     ap (λ (x : Single). x ∷ ss) one ∙ ap (λ (xs : List Single). t ∷ xs) rest
 
-parts_are_one : (reads : List LineRead) (budget : ℕ) (parts parts' : List Single) → All IsLine (lines_of reads) → budget ≤ 20000
+parts_are_one : (reads : List LineRead) (budget : ℕ) (parts parts' : List Single) → All IsLine (lines_of reads)
+    → budget ≤ 20000
     → AllZip (IsPart budget) reads parts → AllZip (IsPart budget) reads parts' → parts ≡ parts'
 parts_are_one [] budget [] [] lines small are are' = refl
 parts_are_one [] budget [] (t ∷ ts) lines small are are' = absurd are'

@@ -16,8 +16,8 @@ status_of Optimal = 0
 status_of Nothing = 1
 status_of Unfinished = 3
 
--- the text of the answer of the search of the line under the budget, which keeps what its verdict claims, with the status of
--- that verdict
+-- the text of the answer of the search of the line under the budget, which keeps what its verdict claims, with the
+-- status of that verdict
 pub record IsSingle (l : LineData) (budget : ℕ) (single : Single) : Type 0 where
   pub answer : Answer
   pub solution : IsSolution l budget answer

@@ -22,13 +22,15 @@ left_is_none (nodes.Solved low) h = absurd h
 left_is_none (nodes.Left low) h = refl
 
 -- another node in the place of one that is left
-set_counts : (tree : List Node) (i : ℕ) (n : Node) (count : ℕ) → i < length tree → IsLeft (node_at tree i) → one_if_split n ≡ count
+set_counts : (tree : List Node) (i : ℕ) (n : Node) (count : ℕ) → i < length tree → IsLeft (node_at tree i)
+    → one_if_split n ≡ count
     → split_nodes (set tree i n) ≡ split_nodes tree + count
 set_counts tree i n count lt left is =
     omega (arith, sum_by-set one_if_split tree i n (nodes.Left None) lt, left_is_none (node_at tree i) left, is)
 
 -- nodes that are left, behind the others
-lefts_count : (tree : List Node) (count : ℕ) (low : List Constraint) → split_nodes (tree ++ replicate count (nodes.Left (Some low))) ≡ split_nodes tree
+lefts_count : (tree : List Node) (count : ℕ) (low : List Constraint)
+    → split_nodes (tree ++ replicate count (nodes.Left (Some low))) ≡ split_nodes tree
 lefts_count tree count low =
     let lefts : List Node = replicate count (nodes.Left (Some low)) in
     omega (arith, sum_by-append one_if_split tree lefts, sum_by-replicate one_if_split count (nodes.Left (Some low)))

@@ -43,7 +43,8 @@ asked_below : (l : LineData) (path : List Decision) (cap : ℕ) (question : Ques
 asked_below l path cap question children period low x =
     record { free = x.0; period = period; ticks = x.2.0; solution = x.2.1; first = x.2.2 }
 
-asked_on : (l : LineData) (path : List Decision) (cap first : ℕ) (x : Expanded) (d : Decision) (children : List ℕ) → IsExpansion l path cap x
+asked_on : (l : LineData) (path : List Decision) (cap first : ℕ) (x : Expanded) (d : Decision) (children : List ℕ)
+    → IsExpansion l path cap x
     → node_of first x ≡ nodes.Split d.question children → d.child < child_count x → IsAskedDecision l path d
 asked_on l path cap first (Stuck m) d children is e lt = absurd cc
 asked_on l path cap first (Closed low high) d children is e lt = absurd cc
@@ -56,8 +57,10 @@ asked_on l path cap first (Split question count period low) d children is e lt =
     record { asked = subst A same (asked_below l path cap question count period low is); child = omega (arith, lt, count_is) }
 
 -- the load doesn't grow
-load_on : (l : LineData) (tree : List Node) (i : ℕ) (path : List Decision) (cap : ℕ) (x : Expanded) → IsLine l → IsShallow l tree
-    → Grows tree (result_at tree i x) i (node_of (length tree) x) (child_count x) (low_of x) → IsPathTo tree i path → IsExpansion l path cap x
+load_on : (l : LineData) (tree : List Node) (i : ℕ) (path : List Decision) (cap : ℕ) (x : Expanded) → IsLine l
+    → IsShallow l tree
+    → Grows tree (result_at tree i x) i (node_of (length tree) x) (child_count x) (low_of x) → IsPathTo tree i path
+    → IsExpansion l path cap x
     → (depth_of : ℕ → ℕ) → ((j : ℕ) (ds : List Decision) → IsPathTo tree j ds → length ds ≡ depth_of j)
     → load (most_children l) (depth l) (deeper depth_of (length tree) i) 0 (result_at tree i x)
     ≤ load (most_children l) (depth l) depth_of 0 tree
@@ -75,8 +78,10 @@ load_on l tree i path cap (Split question count period low) line s g leads is de
     load_split (most_children l) (depth l) depth_of tree i question count low g.there g.left (omega (arith, above, depths i path leads))
     (omega (arith, few, is.3))
 
-shallow_step : (l : LineData) (tree : List Node) (i : ℕ) (path : List Decision) (cap : ℕ) (x : Expanded) → IsLine l → IsShallow l tree
-    → Grows tree (result_at tree i x) i (node_of (length tree) x) (child_count x) (low_of x) → IsPathTo tree i path → IsExpansion l path cap x
+shallow_step : (l : LineData) (tree : List Node) (i : ℕ) (path : List Decision) (cap : ℕ) (x : Expanded) → IsLine l
+    → IsShallow l tree
+    → Grows tree (result_at tree i x) i (node_of (length tree) x) (child_count x) (low_of x) → IsPathTo tree i path
+    → IsExpansion l path cap x
     → IsShallow l (result_at tree i x)
 shallow_step l tree i path cap x line s g leads is =
     let new = result_at tree i x in
@@ -115,8 +120,10 @@ record IsResultAt (l : LineData) (tree : List Node) (cap i : ℕ) (x : Expanded)
 abbrev AreResultsAt : LineData → List Node → ℕ → List ℕ → List Expanded → Type 0
 AreResultsAt l tree cap is xs = (k : ℕ) (x : Expanded) → k < length xs → x ≡ get_or xs k x → IsResultAt l tree cap (get_or is k 0) x
 
-shallow_all : (l : LineData) (tree : List Node) (done rest : List ℕ) (best : Option plans.Solved) (splits cap : ℕ) (xs : List Expanded) → IsLine l
-    → IsShallow l tree → IsPlaced (placed_at tree (done ++ rest) best splits) → AreNarrow xs → AreResultsAt l tree cap rest xs
+shallow_all : (l : LineData) (tree : List Node) (done rest : List ℕ) (best : Option plans.Solved) (splits cap : ℕ) (xs : List Expanded)
+    → IsLine l
+    → IsShallow l tree → IsPlaced (placed_at tree (done ++ rest) best splits) → AreNarrow xs
+    → AreResultsAt l tree cap rest xs
     → length xs ≤ length rest → splits + length xs ≤ 20000 → IsShallow l (taken tree rest xs)
 shallow_all l tree done rest best splits cap [] line s placed narrow results few room = s
 shallow_all l tree done [] best splits cap (x ∷ xs) line s placed narrow results few room = absurd (omega (arith, few))
@@ -149,7 +156,8 @@ shallow_start l = record {
       omega (arith, ap (λ (n : ℕ). most_splits (most_children l) n) e);
 }
 
-shallow_reached : (l : LineData) (budget rounds : ℕ) (s : Search) → IsLine l → budget ≤ 20000 → IsReached l budget rounds s → IsShallow l s.tree
+shallow_reached : (l : LineData) (budget rounds : ℕ) (s : Search) → IsLine l → budget ≤ 20000
+    → IsReached l budget rounds s → IsShallow l s.tree
 shallow_reached l budget zero s line small e = let P : Search → Type 0 = λ x. IsShallow l x.tree in subst P (sym e) (shallow_start l)
 shallow_reached l budget (suc rounds) s line small (before, xs, reached, round, e) =
     let P : Search → Type 0 = λ x. IsShallow l x.tree in
@@ -162,7 +170,8 @@ shallow_reached l budget (suc rounds) s line small (before, xs, reached, round, 
     subst P (sym e) all
 
 -- so many splits are fewer than the budget
-few_splits : (l : LineData) (budget rounds : ℕ) (s : Search) → IsLine l → budget ≤ 20000 → IsReached l budget rounds s → s.splits < enough_budget l
+few_splits : (l : LineData) (budget rounds : ℕ) (s : Search) → IsLine l → budget ≤ 20000 → IsReached l budget rounds s
+    → s.splits < enough_budget l
 few_splits l budget rounds s line small reached =
     let shallow = shallow_reached l budget rounds s line small reached in
     let counted = (placed_reached l budget rounds s line small reached).counted in
@@ -170,7 +179,8 @@ few_splits l budget rounds s line small reached =
     omega (arith, shallow.load, counted, loaded, fewer_splits (most_children l) (depth l) (omega arith))
 
 -- where the rounds end within a budget that is enough, no path is left
-pub enough_leaves_none : (l : LineData) (budget rounds : ℕ) (s : Search) → IsLine l → budget ≤ 20000 → IsReached l budget rounds s
+pub enough_leaves_none : (l : LineData) (budget rounds : ℕ) (s : Search) → IsLine l → budget ≤ 20000
+    → IsReached l budget rounds s
     → (length s.frontier ≡ 0) ⊎ (budget ≤ s.splits) → enough_budget l ≤ budget → length s.frontier ≡ 0
 enough_leaves_none l budget rounds s line small reached done enough =
     ⊎_elim (λ none. none) (λ spent. absurd (omega (arith, spent, enough, few_splits l budget rounds s line small reached))) done

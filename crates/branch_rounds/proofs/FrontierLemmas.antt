@@ -12,7 +12,8 @@ reverse_front xs n le =
     sym (ap (λ (ys : List ℕ). drop n ys) parts ∙ drop_at (reverse (drop m xs)) (reverse (take m xs)) n size)
 
 -- other paths in the place of the first ones
-pub replaced_first : (stack short pushed paths frontier : List ℕ) (count rest k : ℕ) → reverse stack ≡ frontier → short ≡ take rest stack
+pub replaced_first : (stack short pushed paths frontier : List ℕ) (count rest k : ℕ) → reverse stack ≡ frontier
+    → short ≡ take rest stack
     → rest + count ≡ length stack → length paths ≤ k → k ≤ length paths → pushed ≡ short ++ take k (reverse paths)
     → reverse pushed ≡ paths ++ drop count frontier
 replaced_first stack short pushed paths frontier count rest k is cut size past le on =

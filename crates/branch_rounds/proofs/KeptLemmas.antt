@@ -34,12 +34,14 @@ use Rattle.branch_rounds.proofs.PlacedLemmas.{node_of, low_of, placed_at, one_on
 
 -- ---- bounds
 
-fewer : (l : LineData) (path : List Decision) (walks : List (List Constraint)) (bound bound' : ℕ) → bound' ≤ bound → RefuteBelow l path walks bound
+fewer : (l : LineData) (path : List Decision) (walks : List (List Constraint)) (bound bound' : ℕ) → bound' ≤ bound
+    → RefuteBelow l path walks bound
     → RefuteBelow l path walks bound'
 fewer l path walks bound bound' le r = record { closed = r.closed; refuted = λ period some lt. r.refuted period some (omega (arith, lt, le)) }
 
 -- a node that isn't left shows the same of fewer periods; one that is left shows none
-pub shows_fewer : (l : LineData) (path : List Decision) (n : Node) (cap cap' : ℕ) → cap' ≤ cap → Shows l path n (shown_below n cap)
+pub shows_fewer : (l : LineData) (path : List Decision) (n : Node) (cap cap' : ℕ) → cap' ≤ cap
+    → Shows l path n (shown_below n cap)
     → Shows l path n (shown_below n cap')
 shows_fewer l path (nodes.Split question children) cap cap' le s = s
 shows_fewer l path (nodes.Closed low high) cap cap' le s = fewer l path (option_to_list low ++ option_to_list high) cap cap' le s
@@ -65,7 +67,8 @@ less_period l (Some best) s le =
     (cases_lt s.period best.period)
 
 -- the caps only fall
-pub cap_falls : (l : LineData) (path : List Decision) (best : Option plans.Solved) (cap : ℕ) (x : Expanded) → cap ≤ l.max_period + 1 → IsShown l path cap x
+pub cap_falls : (l : LineData) (path : List Decision) (best : Option plans.Solved) (cap : ℕ) (x : Expanded)
+    → cap ≤ l.max_period + 1 → IsShown l path cap x
     → cap_of l (better best x) ≤ cap_of l best
 cap_falls l path best cap (Stuck m) le s = omega arith
 cap_falls l path best cap (Closed low high) le s = omega arith
@@ -75,14 +78,16 @@ cap_falls l path best cap (Split question children period low) le s = omega arit
 abbrev IsGood : LineData → Option plans.Solved → Type 0
 IsGood l best = IfSome best (λ b. IsPlannable l b × (b.period ≤ l.max_period))
 
-less_good : (l : LineData) (best : Option plans.Solved) (s : plans.Solved) → IsGood l best → IsPlannable l s → s.period ≤ l.max_period
+less_good : (l : LineData) (best : Option plans.Solved) (s : plans.Solved) → IsGood l best → IsPlannable l s
+    → s.period ≤ l.max_period
     → IsGood l (Some (less best s))
 less_good l None s good plan le = (plan, le)
 less_good l (Some best) s good plan le =
     let P : plans.Solved → Type 0 = λ x. IsPlannable l x × (x.period ≤ l.max_period) in
     ⊎_elim (λ lt. subst P (sym (less_first best s lt)) (plan, le)) (λ ge. subst P (sym (less_best best s ge)) good) (cases_lt s.period best.period)
 
-better_good : (l : LineData) (path : List Decision) (best : Option plans.Solved) (cap : ℕ) (x : Expanded) → cap ≤ l.max_period + 1 → IsShown l path cap x
+better_good : (l : LineData) (path : List Decision) (best : Option plans.Solved) (cap : ℕ) (x : Expanded)
+    → cap ≤ l.max_period + 1 → IsShown l path cap x
     → IsGood l best → IsGood l (better best x)
 better_good l path best cap (Stuck m) le s good = good
 better_good l path best cap (Closed low high) le s good = good
@@ -91,7 +96,8 @@ better_good l path best cap (Split question children period low) le s good = goo
 
 -- ---- what the new node shows
 
-node_shows : (l : LineData) (path : List Decision) (best : Option plans.Solved) (cap first : ℕ) (x : Expanded) → cap ≤ l.max_period + 1 → cap_of l best ≤ cap
+node_shows : (l : LineData) (path : List Decision) (best : Option plans.Solved) (cap first : ℕ) (x : Expanded)
+    → cap ≤ l.max_period + 1 → cap_of l best ≤ cap
     → IsShown l path cap x
     → Shows l path (node_of first x) (shown_below (node_of first x) (cap_of l (better best x)))
 node_shows l path best cap first (Stuck m) le falls s = s.shows
@@ -109,7 +115,8 @@ record IsSplitOn (l : LineData) (path : List Decision) (cap : ℕ) (x : Expanded
   low : RefuteBelow l path (low_of x ∷ []) 1
   one : split_count x ≡ 1
 
-split_on : (l : LineData) (path : List Decision) (cap first : ℕ) (x : Expanded) (d : Decision) (children : List ℕ) → IsShown l path cap x
+split_on : (l : LineData) (path : List Decision) (cap first : ℕ) (x : Expanded) (d : Decision) (children : List ℕ)
+    → IsShown l path cap x
     → node_of first x ≡ nodes.Split d.question children → d.child < child_count x → IsSplitOn l path cap x d
 split_on l path cap first (Stuck m) d children s e lt = absurd cc
 split_on l path cap first (Closed low high) d children s e lt = absurd cc
@@ -124,7 +131,8 @@ split_on l path cap first (Split question count period low) d children s e lt =
       one = refl;
     }
 
-child_shows : (l : LineData) (path : List Decision) (d : Decision) (low : List Constraint) → IsLine l → FitsPath l (path ++ d ∷ [])
+child_shows : (l : LineData) (path : List Decision) (d : Decision) (low : List Constraint) → IsLine l
+    → FitsPath l (path ++ d ∷ [])
     → RefuteBelow l path (low ∷ []) 1 → Shows l (path ++ d ∷ []) (nodes.Left (Some low)) 1
 child_shows l path d low line fits r = record {
   closed = λ walk there.
@@ -170,7 +178,8 @@ new_child l tree i path best cap x ds j is next c =
 
 kept_fits : (l : LineData) (tree new : List Node) (i : ℕ) (path : List Decision) (best : Option plans.Solved) (cap splits : ℕ) (x : Expanded)
     → IsNext l tree i path best cap x → Grows tree new i (node_of (length tree) x) (child_count x) (low_of x)
-    → ((j : ℕ) (ds : List Decision) → IsPathTo tree j ds → FitsPath l ds × (length ds ≤ splits)) → (j : ℕ) (ds : List Decision) → IsPathTo new j ds
+    → ((j : ℕ) (ds : List Decision) → IsPathTo tree j ds → FitsPath l ds × (length ds ≤ splits))
+    → (j : ℕ) (ds : List Decision) → IsPathTo new j ds
     → FitsPath l ds × (length ds ≤ splits + split_count x)
 kept_fits l tree new i path best cap splits x next g fits j ds leads =
     ⊎_elim
@@ -182,11 +191,13 @@ kept_fits l tree new i path best cap splits x next g fits j ds leads =
     subst P (sym on.is) (fits_more l path d f.0 on.split.fits, omega (arith, f.1, on.split.one, length-append path (d ∷ []))))
     (path_from tree new i (node_of (length tree) x) (child_count x) (low_of x) 0 ds j g g.was.root leads)
 
-kept_shows : (l : LineData) (tree new : List Node) (i : ℕ) (path : List Decision) (best : Option plans.Solved) (cap splits : ℕ) (x : Expanded) → IsLine l
+kept_shows : (l : LineData) (tree new : List Node) (i : ℕ) (path : List Decision) (best : Option plans.Solved) (cap splits : ℕ) (x : Expanded)
+    → IsLine l
     → IsNext l tree i path best cap x → Grows tree new i (node_of (length tree) x) (child_count x) (low_of x)
     → ((j : ℕ) (ds : List Decision) → IsPathTo tree j ds → FitsPath l ds × (length ds ≤ splits))
     → ((j : ℕ) (ds : List Decision) → j < length tree → IsPathTo tree j ds → Shows l ds (node_at tree j) (shown_below (node_at tree j) (cap_of l best)))
-    → (j : ℕ) (ds : List Decision) → IsPathTo new j ds → Shows l ds (node_at new j) (shown_below (node_at new j) (cap_of l (better best x)))
+    → (j : ℕ) (ds : List Decision) → IsPathTo new j ds
+    → Shows l ds (node_at new j) (shown_below (node_at new j) (cap_of l (better best x)))
 kept_shows l tree new i path best cap splits x line next g fits shows j ds leads =
     let now = cap_of l (better best x) in
     let falls = cap_falls l path best cap x next.cap_most next.shown in
@@ -213,16 +224,20 @@ kept_shows l tree new i path best cap splits x line next g fits shows j ds leads
     subst S (sym there) (subst D (sym on.is) (child_shows l path d (low_of x) line (fits_more l path d f.0 on.split.fits) on.split.low)))
     (path_from tree new i (node_of (length tree) x) (child_count x) (low_of x) 0 ds j g g.was.root leads)
 
-fresh_text : (l : LineData) (path : List Decision) (cap : ℕ) (x : Expanded) → IsLine l → length path ≤ 20000 → IsShown l path cap x → 0 < child_count x
+fresh_text : (l : LineData) (path : List Decision) (cap : ℕ) (x : Expanded) → IsLine l → length path ≤ 20000
+    → IsShown l path cap x → 0 < child_count x
     → IsNodeText (is_single l) (nodes.Left (Some (low_of x)))
 fresh_text l path cap (Stuck m) line short s some = absurd (omega (arith, some))
 fresh_text l path cap (Closed low high) line short s some = absurd (omega (arith, some))
 fresh_text l path cap (Solved solved low) line short s some = absurd (omega (arith, some))
 fresh_text l path cap (Split question children period low) line short s some = low_text l path cap question children period low line short s
 
-kept_texts : (l : LineData) (tree new : List Node) (i : ℕ) (path : List Decision) (best : Option plans.Solved) (cap : ℕ) (x : Expanded) → IsLine l
-    → IsNext l tree i path best cap x → Grows tree new i (node_of (length tree) x) (child_count x) (low_of x) → FitsPath l path → length path ≤ 20000
-    → ((j : ℕ) → j < length tree → IsNodeText (is_single l) (node_at tree j)) → (j : ℕ) → j < length new → IsNodeText (is_single l) (node_at new j)
+kept_texts : (l : LineData) (tree new : List Node) (i : ℕ) (path : List Decision) (best : Option plans.Solved) (cap : ℕ) (x : Expanded)
+    → IsLine l
+    → IsNext l tree i path best cap x → Grows tree new i (node_of (length tree) x) (child_count x) (low_of x)
+    → FitsPath l path → length path ≤ 20000
+    → ((j : ℕ) → j < length tree → IsNodeText (is_single l) (node_at tree j)) → (j : ℕ) → j < length new
+    → IsNodeText (is_single l) (node_at new j)
 kept_texts l tree new i path best cap x line next g fits short texts j lt =
     let T : Node → Type 0 = λ n. IsNodeText (is_single l) n in
     ⊎_elim
@@ -237,7 +252,8 @@ kept_texts l tree new i path best cap x line next g fits short texts j lt =
     (cases_lt j (length tree))
 
 -- at most six children
-pub few_children : (l : LineData) (path : List Decision) (cap : ℕ) (x : Expanded) → IsShown l path cap x → child_count x ≤ 6
+pub few_children : (l : LineData) (path : List Decision) (cap : ℕ) (x : Expanded) → IsShown l path cap x
+    → child_count x ≤ 6
 few_children l path cap (Stuck m) s = omega arith
 few_children l path cap (Closed low high) s = omega arith
 few_children l path cap (Solved solved low) s = omega arith
@@ -245,7 +261,8 @@ few_children l path cap (Split question children period low) s = s.shows.6
 
 kept_step : (l : LineData) (tree : List Node) (done : List ℕ) (i : ℕ) (rest : List ℕ) (best : Option plans.Solved) (splits cap : ℕ) (x : Expanded)
     (path : List Decision)
-    → IsLine l → IsKept l (placed_at tree (done ++ i ∷ rest) best splits) → splits < 20000 → IsNext l tree i path best cap x
+    → IsLine l → IsKept l (placed_at tree (done ++ i ∷ rest) best splits) → splits < 20000
+    → IsNext l tree i path best cap x
     → Grows tree (result_at tree i x) i (node_of (length tree) x) (child_count x) (low_of x) × IsKept l (one_on tree done i rest (better best x) splits x)
 kept_step l tree done i rest best splits cap x path line k room next =
     let few = few_children l path cap x next.shown in
@@ -273,8 +290,10 @@ pub record IsAnswerAt (l : LineData) (tree : List Node) (cap i : ℕ) (x : Expan
 abbrev pub AreAnswersAt : LineData → List Node → ℕ → List ℕ → List Expanded → Type 0
 AreAnswersAt l tree cap is xs = (k : ℕ) (x : Expanded) → k < length xs → x ≡ get_or xs k x → IsAnswerAt l tree cap (get_or is k 0) x
 
-pub kept_all : (l : LineData) (tree : List Node) (done rest : List ℕ) (best : Option plans.Solved) (splits cap : ℕ) (xs : List Expanded) → IsLine l
-    → IsKept l (placed_at tree (done ++ rest) best splits) → cap ≤ l.max_period + 1 → cap_of l best ≤ cap → AreAnswersAt l tree cap rest xs
+pub kept_all : (l : LineData) (tree : List Node) (done rest : List ℕ) (best : Option plans.Solved) (splits cap : ℕ) (xs : List Expanded)
+    → IsLine l
+    → IsKept l (placed_at tree (done ++ rest) best splits) → cap ≤ l.max_period + 1 → cap_of l best ≤ cap
+    → AreAnswersAt l tree cap rest xs
     → length xs ≤ length rest → splits + length xs ≤ 20000
     → IsKept l (placed_at (taken tree rest xs) ((done ++ replaced (length tree) xs) ++ drop (length xs) rest) (best_of best xs) (splits + splits_of xs))
 kept_all l tree done rest best splits cap [] line k most falls answers few room =

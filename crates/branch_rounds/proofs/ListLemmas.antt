@@ -73,7 +73,8 @@ replaced_more first (y ∷ ys) x =
     ∙ sym (append_assoc front rest (numbers_from (first + child_count y + total ys) (child_count x)))
     ∙ ap (λ (n : ℕ). front ++ rest ++ numbers_from n (child_count x)) e
 
-pub best_more : (best : Option plans.Solved) (xs : List Expanded) (x : Expanded) → best_of best (xs ++ x ∷ []) ≡ better (best_of best xs) x
+pub best_more : (best : Option plans.Solved) (xs : List Expanded) (x : Expanded)
+    → best_of best (xs ++ x ∷ []) ≡ better (best_of best xs) x
 best_more best [] x = refl
 best_more best (y ∷ ys) x = best_more (better best y) ys x
 
@@ -118,13 +119,15 @@ length-replaced first (x ∷ xs) h =
 
 -- ---- numbers in a row
 
-pub pushed_number : (old paths pushed : List ℕ) (first count : ℕ) → paths ≡ old ++ numbers_from first count → pushed ≡ paths ++ (first + count) ∷ []
+pub pushed_number : (old paths pushed : List ℕ) (first count : ℕ) → paths ≡ old ++ numbers_from first count
+    → pushed ≡ paths ++ (first + count) ∷ []
     → pushed ≡ old ++ numbers_from first (count + 1)
 pushed_number old paths pushed first count was is =
     is ∙ ap (λ (ns : List ℕ). ns ++ (first + count) ∷ []) was ∙ append_assoc old (numbers_from first count) ((first + count) ∷ [])
     ∙ ap (λ (ns : List ℕ). old ++ ns) (sym (numbers_from_more first count))
 
-pub numbers_all : (old paths : List ℕ) (first first' count count' : ℕ) → paths ≡ old ++ numbers_from first count → first ≡ first' → count ≡ count'
+pub numbers_all : (old paths : List ℕ) (first first' count count' : ℕ) → paths ≡ old ++ numbers_from first count
+    → first ≡ first' → count ≡ count'
     → paths ≡ old ++ numbers_from first' count'
 numbers_all old paths first first' count count' is e f =
     is ∙ ap (λ (n : ℕ). old ++ numbers_from n count) e ∙ ap (λ (n : ℕ). old ++ numbers_from first' n) f

@@ -45,7 +45,8 @@ one_room wide levels depth (nodes.Stuck m) = omega arith
 one_room wide levels depth (nodes.Solved low) = omega arith
 one_room wide levels depth (nodes.Left low) = omega arith
 
-pub splits_loaded : (wide levels : ℕ) (depth : ℕ → ℕ) (first : ℕ) (ns : List Node) → split_nodes ns ≤ load wide levels depth first ns
+pub splits_loaded : (wide levels : ℕ) (depth : ℕ → ℕ) (first : ℕ) (ns : List Node)
+    → split_nodes ns ≤ load wide levels depth first ns
 splits_loaded wide levels depth first [] = omega arith
 splits_loaded wide levels depth first (n ∷ ns) =
     omega (
@@ -81,7 +82,8 @@ load-append wide levels depth first (n ∷ ns) ms =
     omega (arith, load-append wide levels depth (first + 1) ns ms, ap (λ (k : ℕ). load wide levels depth k ms) e)
 
 -- depths that are the same for these nodes
-load_same : (wide levels : ℕ) (depth other : ℕ → ℕ) (first : ℕ) (ns : List Node) → ((j : ℕ) → first ≤ j → j < first + length ns → depth j ≡ other j)
+load_same : (wide levels : ℕ) (depth other : ℕ → ℕ) (first : ℕ) (ns : List Node)
+    → ((j : ℕ) → first ≤ j → j < first + length ns → depth j ≡ other j)
     → load wide levels depth first ns ≡ load wide levels other first ns
 load_same wide levels depth other first [] same = refl
 load_same wide levels depth other first (n ∷ ns) same =
@@ -92,7 +94,8 @@ load_same wide levels depth other first (n ∷ ns) same =
     )
 
 -- nodes that are left, all at one depth
-load_lefts : (wide levels : ℕ) (depth : ℕ → ℕ) (first count d : ℕ) (low : List Constraint) → ((j : ℕ) → first ≤ j → depth j ≡ d)
+load_lefts : (wide levels : ℕ) (depth : ℕ → ℕ) (first count d : ℕ) (low : List Constraint)
+    → ((j : ℕ) → first ≤ j → depth j ≡ d)
     → load wide levels depth first (replicate count (nodes.Left (Some low))) ≡ count * most_splits wide (levels - d)
 load_lefts wide levels depth first zero d low same = omega arith
 load_lefts wide levels depth first (suc count) d low same =
@@ -134,12 +137,14 @@ load_end wide levels depth tree i n lt =
     let G : ℕ → ℕ = λ k. room wide levels (depth k) (node_at tree i) in
     omega (arith, same, ap F e, ap G e, load_set wide levels depth 0 tree i n lt)
 
-pub load_leaf : (wide levels : ℕ) (depth : ℕ → ℕ) (tree : List Node) (i : ℕ) (n : Node) → i < length tree → room wide levels (depth i) n ≡ 0
+pub load_leaf : (wide levels : ℕ) (depth : ℕ → ℕ) (tree : List Node) (i : ℕ) (n : Node) → i < length tree
+    → room wide levels (depth i) n ≡ 0
     → load wide levels (deeper depth (length tree) i) 0 (set tree i n) ≤ load wide levels depth 0 tree
 load_leaf wide levels depth tree i n lt none = omega (arith, load_end wide levels depth tree i n lt, none)
 
 -- it becomes a split, above the last level and with few children
-pub load_split : (wide levels : ℕ) (depth : ℕ → ℕ) (tree : List Node) (i : ℕ) (question : Question) (count : ℕ) (low : List Constraint) → i < length tree
+pub load_split : (wide levels : ℕ) (depth : ℕ → ℕ) (tree : List Node) (i : ℕ) (question : Question) (count : ℕ) (low : List Constraint)
+    → i < length tree
     → IsLeft (node_at tree i) → depth i < levels → count ≤ wide
     → load wide levels (deeper depth (length tree) i) 0 (split_at tree i question count low) ≤ load wide levels depth 0 tree
 load_split wide levels depth tree i question count low lt left above few =

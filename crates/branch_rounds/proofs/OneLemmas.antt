@@ -20,16 +20,19 @@ use Rattle.branch_rounds.specs.ExpansionLemmas.{expansion_is_one, few_below}
 
 -- ---- the states
 
-pub narrow_round : (l : LineData) (budget : ℕ) (s : Search) (xs : List Expanded) → IsLine l → IsRound l budget s xs → AreNarrow xs
+pub narrow_round : (l : LineData) (budget : ℕ) (s : Search) (xs : List Expanded) → IsLine l → IsRound l budget s xs
+    → AreNarrow xs
 narrow_round l budget s xs line round = λ k x lt is. let r = round.each k x lt is in few_below l r.path (cap_of l s.best) x line r.expansion
 
-placed_after : (l : LineData) (budget : ℕ) (s : Search) (xs : List Expanded) → IsLine l → budget ≤ 20000 → IsPlaced s → IsRound l budget s xs
+placed_after : (l : LineData) (budget : ℕ) (s : Search) (xs : List Expanded) → IsLine l → budget ≤ 20000 → IsPlaced s
+    → IsRound l budget s xs
     → IsPlaced (after s xs)
 placed_after l budget s xs line small placed round =
     (placed_all s.tree [] s.frontier s.best (best_of s.best xs) s.splits xs placed (narrow_round l budget s xs line round) (omega (arith, round.count))
     (omega (arith, round.count, round.unspent, small))).0
 
-pub placed_reached : (l : LineData) (budget rounds : ℕ) (s : Search) → IsLine l → budget ≤ 20000 → IsReached l budget rounds s → IsPlaced s
+pub placed_reached : (l : LineData) (budget rounds : ℕ) (s : Search) → IsLine l → budget ≤ 20000
+    → IsReached l budget rounds s → IsPlaced s
 placed_reached l budget zero s line small e = let P : Search → Type 0 = λ x. IsPlaced x in subst P (sym e) (kept_start l).placed
 placed_reached l budget (suc rounds) s line small (before, xs, reached, round, e) =
     let P : Search → Type 0 = λ x. IsPlaced x in
@@ -37,7 +40,8 @@ placed_reached l budget (suc rounds) s line small (before, xs, reached, round, e
 
 -- ---- a round
 
-result_is_one : (l : LineData) (s : Search) (k : ℕ) (x y : Expanded) → IsLine l → IsPlaced s → IsResult l s k x → IsResult l s k y → x ≡ y
+result_is_one : (l : LineData) (s : Search) (k : ℕ) (x y : Expanded) → IsLine l → IsPlaced s → IsResult l s k x
+    → IsResult l s k y → x ≡ y
 result_is_one l s k x y line placed a b =
     let same : a.path ≡ b.path = one_path s.tree (get_or s.frontier k 0) a.path b.path placed.tree a.leads b.leads in
     let P : List Decision → Type 0 = λ ds. IsExpansion l ds (cap_of l s.best) y in
@@ -56,12 +60,14 @@ same_list (x ∷ xs) (y ∷ ys) e h =
     ∙ ap (λ (zs : List Expanded). y ∷ zs)
     (same_list xs ys (omega (arith, e)) (λ k a b lt lt' is is'. h (suc k) a b (omega (arith, lt)) (omega (arith, lt')) is is'))
 
-round_is_one : (l : LineData) (budget : ℕ) (s : Search) (xs ys : List Expanded) → IsLine l → IsPlaced s → IsRound l budget s xs → IsRound l budget s ys
+round_is_one : (l : LineData) (budget : ℕ) (s : Search) (xs ys : List Expanded) → IsLine l → IsPlaced s
+    → IsRound l budget s xs → IsRound l budget s ys
     → xs ≡ ys
 round_is_one l budget s xs ys line placed a b =
     same_list xs ys (a.count ∙ sym b.count) (λ k x y lt lt' is is'. result_is_one l s k x y line placed (a.each k x lt is) (b.each k y lt' is'))
 
-state_is_one : (l : LineData) (budget rounds : ℕ) (s s' : Search) → IsLine l → budget ≤ 20000 → IsReached l budget rounds s → IsReached l budget rounds s'
+state_is_one : (l : LineData) (budget rounds : ℕ) (s s' : Search) → IsLine l → budget ≤ 20000
+    → IsReached l budget rounds s → IsReached l budget rounds s'
     → s ≡ s'
 state_is_one l budget zero s s' line small e e' = e ∙ sym e'
 state_is_one l budget (suc rounds) s s' line small (before, xs, reached, round, e) (before', xs', reached', round', e') =
@@ -84,7 +90,8 @@ goes_on l budget rounds (suc more) s lt (before, xs, reached, round, e) =
     (cases_eq rounds more)
 
 -- where the search ends no round leads on
-ends_first : (l : LineData) (budget : ℕ) (o o' : Outcome) (g : IsGrown l budget o) (g' : IsGrown l budget o') → IsLine l → budget ≤ 20000 → g.rounds < g'.rounds
+ends_first : (l : LineData) (budget : ℕ) (o o' : Outcome) (g : IsGrown l budget o) (g' : IsGrown l budget o') → IsLine l
+    → budget ≤ 20000 → g.rounds < g'.rounds
     → ⊥
 ends_first l budget o o' g g' line small lt =
     let (b, xs, reached, round) = goes_on l budget g.rounds g'.rounds g'.end lt g'.reached in
@@ -95,7 +102,8 @@ ends_first l budget o o' g g' line small lt =
 
 -- ---- the bound
 
-bound_not_less : (l : LineData) (s : Search) (bound bound' : ℕ) → IsBound l s bound → IsBound l s bound' → bound < bound' → ⊥
+bound_not_less : (l : LineData) (s : Search) (bound bound' : ℕ) → IsBound l s bound → IsBound l s bound'
+    → bound < bound' → ⊥
 bound_not_less l s bound bound' b b' lt =
     ⊎_elim
     (λ cap. omega (arith, cap, lt, b'.most))
@@ -123,7 +131,8 @@ outcome_of l budget o s g e =
     (λ (n : ℕ). outcome_by g.end.tree g.end.best o.bound g.end.splits n) g.left
     ∙ ap (λ (x : Search). outcome_by x.tree x.best o.bound x.splits (length x.frontier)) e
 
-same_outcome : (l : LineData) (budget : ℕ) (o o' : Outcome) (g : IsGrown l budget o) (g' : IsGrown l budget o') → IsLine l → budget ≤ 20000
+same_outcome : (l : LineData) (budget : ℕ) (o o' : Outcome) (g : IsGrown l budget o) (g' : IsGrown l budget o')
+    → IsLine l → budget ≤ 20000
     → g.rounds ≡ g'.rounds → o ≡ o'
 same_outcome l budget o o' g g' line small rounds =
     let P : ℕ → Type 0 = λ n. IsReached l budget n g'.end in

@@ -36,9 +36,11 @@ pub record IsBoundTo (l : LineData) (s : Search) (n bound : ℕ) : Type 0 where
 pub bound_begins : (l : LineData) (s : Search) (bound : ℕ) → 1 ≤ bound → bound ≡ cap_of l s.best → IsBoundTo l s 0 bound
 bound_begins l s bound some e = record { some = some; most = omega (arith, e); refuted = λ k path period lt. absurd (omega (arith, lt)); met = inl e }
 
-pub bound_more : (l : LineData) (s : Search) (n bound bound' : ℕ) (path : List Decision) (node : Node) → IsTree s.tree → IsBoundTo l s n bound
+pub bound_more : (l : LineData) (s : Search) (n bound bound' : ℕ) (path : List Decision) (node : Node) → IsTree s.tree
+    → IsBoundTo l s n bound
     → IsPathTo s.tree (get_or s.frontier n 0) path → node ≡ node_at s.tree (get_or s.frontier n 0)
-    → 1 ≤ bound' → bound' ≤ bound → ((t : ℕ) → 1 ≤ t → t < bound' → LowRefutes l path node t) → (bound' ≡ bound) ⊎ (LowRefutes l path node bound' → ⊥)
+    → 1 ≤ bound' → bound' ≤ bound → ((t : ℕ) → 1 ≤ t → t < bound' → LowRefutes l path node t)
+    → (bound' ≡ bound) ⊎ (LowRefutes l path node bound' → ⊥)
     → IsBoundTo l s (n + 1) bound'
 bound_more l s n bound bound' path node tree b leads is some le refuted met =
     let at = node_at s.tree (get_or s.frontier n 0) in record {
@@ -73,7 +75,8 @@ bound_more l s n bound bound' path node tree b leads is some le refuted met =
           met;
     }
 
-pub bound_ends : (l : LineData) (s : Search) (n bound : ℕ) → n ≡ length s.frontier → IsBoundTo l s n bound → IsBound l s bound
+pub bound_ends : (l : LineData) (s : Search) (n bound : ℕ) → n ≡ length s.frontier → IsBoundTo l s n bound
+    → IsBound l s bound
 bound_ends l s n bound e b =
     record {
       some = b.some;
@@ -83,7 +86,8 @@ bound_ends l s n bound e b =
     }
 
 -- the low of a node that is left
-good_low : (l : LineData) (path : List Decision) (n : Node) (cap : ℕ) (single : Bool) → IsLeft n → Shows l path n (shown_below n cap) → IsNodeText single n
+good_low : (l : LineData) (path : List Decision) (n : Node) (cap : ℕ) (single : Bool) → IsLeft n
+    → Shows l path n (shown_below n cap) → IsNodeText single n
     → HasGoodLow l path n
 good_low l path (Split question children) cap single h s t = absurd h
 good_low l path (Closed low high) cap single h s t = absurd h
@@ -92,8 +96,10 @@ good_low l path (Solved low) cap single h s t = absurd h
 good_low l path (Left None) cap single h s t = tt
 good_low l path (Left (Some low)) cap single h s t = (s.closed low (only low), t.few)
 
-pub good_at : (l : LineData) (s : Search) (k : ℕ) (path : List Decision) (node : Node) → IsKept l s → k < length s.frontier
-    → IsPathTo s.tree (get_or s.frontier k 0) path → node ≡ node_at s.tree (get_or s.frontier k 0) → HasGoodLow l path node
+pub good_at : (l : LineData) (s : Search) (k : ℕ) (path : List Decision) (node : Node) → IsKept l s
+    → k < length s.frontier
+    → IsPathTo s.tree (get_or s.frontier k 0) path → node ≡ node_at s.tree (get_or s.frontier k 0)
+    → HasGoodLow l path node
 good_at l s k path node kept lt leads is =
     let (there, left) = at_frontier s k kept.placed lt in
     let i = get_or s.frontier k 0 in
@@ -115,7 +121,8 @@ pub in_frontier : (s : Search) (i : ℕ) → IsPlaced s → i < length s.tree �
 in_frontier s i p lt left = found s.frontier i (omega (arith, p.left i, left_there s.tree i lt, left_one (node_at s.tree i) left))
 
 -- a node that is left, whose low refutes what is below the bound
-left_shows : (l : LineData) (path : List Decision) (n : Node) (cap bound : ℕ) → IsLeft n → Shows l path n (shown_below n cap)
+left_shows : (l : LineData) (path : List Decision) (n : Node) (cap bound : ℕ) → IsLeft n
+    → Shows l path n (shown_below n cap)
     → ((period : ℕ) → 1 ≤ period → period < bound → LowRefutes l path n period) → Shows l path n bound
 left_shows l path (Split question children) cap bound h s r = absurd h
 left_shows l path (Closed low high) cap bound h s r = absurd h
@@ -124,7 +131,8 @@ left_shows l path (Solved low) cap bound h s r = absurd h
 left_shows l path (Left None) cap bound h s r = record { closed = s.closed; refuted = λ period some lt. absurd (r period some lt) }
 left_shows l path (Left (Some low)) cap bound h s r = record { closed = s.closed; refuted = λ period some lt. (low, only low, r period some lt) }
 
-node_shows : (l : LineData) (path : List Decision) (n : Node) (cap bound : ℕ) → bound ≤ cap → Shows l path n (shown_below n cap)
+node_shows : (l : LineData) (path : List Decision) (n : Node) (cap bound : ℕ) → bound ≤ cap
+    → Shows l path n (shown_below n cap)
     → (IsLeft n → (period : ℕ) → 1 ≤ period → period < bound → LowRefutes l path n period) → Shows l path n bound
 node_shows l path (Split question children) cap bound le s r = s
 node_shows l path (Closed low high) cap bound le s r = shows_fewer l path (Closed low high) cap bound le s
@@ -149,7 +157,8 @@ pub some_left : (s : Search) → IsPlaced s → 0 < length s.frontier → SomeLe
 some_left s p some = let at = at_frontier s 0 p some in (get_or s.frontier 0 0, at.0, at.1)
 
 -- with no path left the bound is the cap
-pub bound_whole : (l : LineData) (s : Search) (bound : ℕ) → IsBound l s bound → length s.frontier ≡ 0 → bound ≡ cap_of l s.best
+pub bound_whole : (l : LineData) (s : Search) (bound : ℕ) → IsBound l s bound → length s.frontier ≡ 0
+    → bound ≡ cap_of l s.best
 bound_whole l s bound b none = ⊎_elim (λ e. e) (λ r. absurd (omega (arith, r.2, none))) b.met
 
 -- ---- the root

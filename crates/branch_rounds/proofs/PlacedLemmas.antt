@@ -31,7 +31,8 @@ low_of (Closed low high) = []
 low_of (Solved solved low) = []
 low_of (Split question children period low) = low
 
-pub grows : (tree : List Node) (i : ℕ) (x : Expanded) → IsTree tree → i < length tree → IsLeft (node_at tree i) → child_count x ≤ 6 → length tree + 6 < 2 ^ 32
+pub grows : (tree : List Node) (i : ℕ) (x : Expanded) → IsTree tree → i < length tree → IsLeft (node_at tree i)
+    → child_count x ≤ 6 → length tree + 6 < 2 ^ 32
     → Grows tree (result_at tree i x) i (node_of (length tree) x) (child_count x) (low_of x)
 grows tree i (Stuck m) is lt left few room = grows_end tree i (nodes.Stuck m) is lt left tt
 grows tree i (Closed low high) is lt left few room = grows_end tree i (nodes.Closed low high) is lt left tt
@@ -66,7 +67,8 @@ left_most (nodes.Solved low) = omega arith
 left_most (nodes.Left low) = omega arith
 
 -- a number in the frontier is that of a node that is left
-pub is_left : (tree : List Node) (frontier : List ℕ) (j : ℕ) → ((i : ℕ) → times i frontier ≡ left_at tree i) → 0 < times j frontier
+pub is_left : (tree : List Node) (frontier : List ℕ) (j : ℕ) → ((i : ℕ) → times i frontier ≡ left_at tree i)
+    → 0 < times j frontier
     → (j < length tree) × IsLeft (node_at tree j)
 is_left tree frontier j left some =
     ⊎_elim
@@ -83,17 +85,21 @@ abbrev pub one_on : List Node → List ℕ → ℕ → List ℕ → Option plans
 one_on tree done i rest best splits x =
     placed_at (result_at tree i x) ((done ++ numbers_from (length tree) (child_count x)) ++ rest) best (splits + split_count x)
 
-times_on : (j : ℕ) (done new rest : List ℕ) → times j ((done ++ new) ++ rest) ≡ times j done + times j new + times j rest
+times_on : (j : ℕ) (done new rest : List ℕ)
+    → times j ((done ++ new) ++ rest) ≡ times j done + times j new + times j rest
 times_on j done new rest = omega (arith, times-append j (done ++ new) rest, times-append j done new)
 
 -- node i is the first of the rest
-pub first_left : (tree : List Node) (done : List ℕ) (i : ℕ) (rest : List ℕ) → ((j : ℕ) → times j (done ++ i ∷ rest) ≡ left_at tree j)
+pub first_left : (tree : List Node) (done : List ℕ) (i : ℕ) (rest : List ℕ)
+    → ((j : ℕ) → times j (done ++ i ∷ rest) ≡ left_at tree j)
     → (i < length tree) × IsLeft (node_at tree i)
 first_left tree done i rest left = is_left tree (done ++ i ∷ rest) i left (omega (arith, times-append i done (i ∷ rest), once i i rest refl))
 
-left_on : (tree new : List Node) (done : List ℕ) (i : ℕ) (rest : List ℕ) (node : Node) (count : ℕ) (low : List Constraint) → Grows tree new i node count low
+left_on : (tree new : List Node) (done : List ℕ) (i : ℕ) (rest : List ℕ) (node : Node) (count : ℕ) (low : List Constraint)
+    → Grows tree new i node count low
     → left_count node ≡ 0
-    → ((j : ℕ) → times j (done ++ i ∷ rest) ≡ left_at tree j) → (j : ℕ) → times j ((done ++ numbers_from (length tree) count) ++ rest) ≡ left_at new j
+    → ((j : ℕ) → times j (done ++ i ∷ rest) ≡ left_at tree j) → (j : ℕ)
+    → times j ((done ++ numbers_from (length tree) count) ++ rest) ≡ left_at new j
 left_on tree new done i rest node count low g none left j =
     let at : times j (done ++ i ∷ rest) ≡ times j done + times j (i ∷ rest) = times-append j done (i ∷ rest) in
     let on = times_on j done (numbers_from (length tree) count) rest in
@@ -153,13 +159,16 @@ placed_step tree done i rest best best' splits x p few room =
     )
 
 -- the paths that stand in the place of the first, one expansion more
-pub on_more : (done : List ℕ) (first : ℕ) (xs : List ℕ) (ys rest : List ℕ) → ((done ++ xs) ++ ys) ++ rest ≡ (done ++ (xs ++ ys)) ++ rest
+pub on_more : (done : List ℕ) (first : ℕ) (xs : List ℕ) (ys rest : List ℕ)
+    → ((done ++ xs) ++ ys) ++ rest ≡ (done ++ (xs ++ ys)) ++ rest
 on_more done first xs ys rest = ap (λ (zs : List ℕ). zs ++ rest) (append_assoc done xs ys)
 
 -- the frontier stays what is left while the expansions of its first paths are taken
 pub placed_all : (tree : List Node) (done rest : List ℕ) (best best' : Option plans.Solved) (splits : ℕ) (xs : List Expanded)
-    → IsPlaced (placed_at tree (done ++ rest) best splits) → AreNarrow xs → length xs ≤ length rest → splits + length xs ≤ 20000
-    → IsPlaced (placed_at (taken tree rest xs) ((done ++ replaced (length tree) xs) ++ drop (length xs) rest) best' (splits + splits_of xs)) × (length (taken tree rest xs) ≡ length tree + total xs)
+    → IsPlaced (placed_at tree (done ++ rest) best splits) → AreNarrow xs → length xs ≤ length rest
+    → splits + length xs ≤ 20000
+    → IsPlaced (placed_at (taken tree rest xs) ((done ++ replaced (length tree) xs) ++ drop (length xs) rest) best'
+    (splits + splits_of xs)) × (length (taken tree rest xs) ≡ length tree + total xs)
 placed_all tree done rest best best' splits [] p narrow few room =
     let F : List ℕ → Type 0 = λ ns. IsPlaced (placed_at tree (ns ++ rest) best' splits) in
     let N : ℕ → Type 0 = λ n. IsPlaced (placed_at tree ((done ++ []) ++ rest) best' n) in

@@ -55,7 +55,8 @@ two_ticks l s line p =
     let lower = line.times.lower 0 step in
     omega (arith, ints, keeps, one, lift, lower)
 
-pub cap_range : (l : LineData) (best : Option plans.Solved) → IsLine l → IfSome best (λ b. IsPlannable l b × (b.period ≤ l.max_period))
+pub cap_range : (l : LineData) (best : Option plans.Solved) → IsLine l
+    → IfSome best (λ b. IsPlannable l b × (b.period ≤ l.max_period))
     → (2 ≤ cap_of l best) × (cap_of l best ≤ l.max_period + 1) × (cap_of l best ≤ 20001)
 cap_range l None line good = (omega (arith, line.limits.max_period), omega arith, omega (arith, line.limits.max_period))
 cap_range l (Some b) line good = (two_ticks l b line good.0, omega (arith, good.1), omega (arith, good.1, line.limits.max_period))
@@ -65,7 +66,8 @@ cap_range l (Some b) line good = (two_ticks l b line good.0, omega (arith, good.
 pub narrow : (l : LineData) (s : Search) (xs : List Expanded) → AreAnswers l s xs → AreNarrow xs
 narrow l s xs answers = λ k x lt is. let a = answers k x lt is in few_children l a.path (cap_of l s.best) x a.shown
 
-pub is_round : (l : LineData) (budget : ℕ) (s : Search) (xs : List Expanded) → 0 < length s.frontier → s.splits < budget → length xs ≡ round_size budget s
+pub is_round : (l : LineData) (budget : ℕ) (s : Search) (xs : List Expanded) → 0 < length s.frontier → s.splits < budget
+    → length xs ≡ round_size budget s
     → AreAnswers l s xs → IsRound l budget s xs
 is_round l budget s xs some unspent count answers = record {
   some = some;
@@ -74,14 +76,16 @@ is_round l budget s xs some unspent count answers = record {
   each = λ k x lt is. let a = answers k x lt is in record { path = a.path; leads = a.leads; expansion = a.shown.expansion };
 }
 
-pub kept_round : (l : LineData) (s : Search) (xs : List Expanded) → IsLine l → IsKept l s → AreAnswers l s xs → length xs ≤ length s.frontier
+pub kept_round : (l : LineData) (s : Search) (xs : List Expanded) → IsLine l → IsKept l s → AreAnswers l s xs
+    → length xs ≤ length s.frontier
     → s.splits + length xs ≤ 20000 → IsKept l (after s xs)
 kept_round l s xs line k answers few room =
     kept_all l s.tree [] s.frontier s.best s.splits (cap_of l s.best) xs line k (cap_range l s.best line k.best).1 (omega arith)
     (λ n x lt is. let a = answers n x lt is in record { path = a.path; leads = a.leads; shown = a.shown }) few room
 
 -- a round spends some of what the splits and the paths left come to
-pub round_less : (budget : ℕ) (s : Search) (xs : List Expanded) → AreNarrow xs → 0 < length s.frontier → s.splits < budget → length xs ≡ round_size budget s
+pub round_less : (budget : ℕ) (s : Search) (xs : List Expanded) → AreNarrow xs → 0 < length s.frontier
+    → s.splits < budget → length xs ≡ round_size budget s
     → ((after s xs).splits ≤ budget) × (length (after s xs).frontier + 6 * (budget - (after s xs).splits) < length s.frontier + 6 * (budget - s.splits))
 round_less budget s xs narrow some unspent count =
     let paths = length-replaced (length s.tree) xs narrow in

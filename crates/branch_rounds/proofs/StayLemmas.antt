@@ -15,10 +15,12 @@ use Rattle.path_constraints.specs.Constraints.{IsOrder, IsConstraint, arc_of}
 use Rattle.path_constraints.specs.Proves.{Walks, IsClosedWalk}
 use Rattle.path_constraints.proofs.GrowLemmas.{decided_at}
 
-decision_stays : (path : List Decision) (d : Decision) (i : ℕ) → i < length path → decision_at (path ++ d ∷ []) i ≡ decision_at path i
+decision_stays : (path : List Decision) (d : Decision) (i : ℕ) → i < length path
+    → decision_at (path ++ d ∷ []) i ≡ decision_at path i
 decision_stays path d i lt = get_or-append path (d ∷ []) no_decision i lt
 
-pub constraint_stays : (l : LineData) (path : List Decision) (d : Decision) (t : Constraint) → IsConstraint l path t → IsConstraint l (path ++ d ∷ []) t
+pub constraint_stays : (l : LineData) (path : List Decision) (d : Decision) (t : Constraint) → IsConstraint l path t
+    → IsConstraint l (path ++ d ∷ []) t
 constraint_stays l path d (Min c k) h = h
 constraint_stays l path d (Max c k) h = h
 constraint_stays l path d (Entry c) h = h
@@ -34,12 +36,14 @@ arc_by from to w q = record { from = from; to = to; w = w; q = q }
 abbrev SameEnds : Arc → Arc → Type 0
 SameEnds a b = (a.from ≡ b.from) × (a.to ≡ b.to)
 
-either_ends : (t : Bool) (x : Arc) (from to : ℕ) (w w' q : ℤ) → SameEnds (cond t x (arc_by from to w q)) (cond t x (arc_by from to w' q))
+either_ends : (t : Bool) (x : Arc) (from to : ℕ) (w w' q : ℤ)
+    → SameEnds (cond t x (arc_by from to w q)) (cond t x (arc_by from to w' q))
 either_ends true x from to w w' q = (refl, refl)
 either_ends false x from to w w' q = (refl, refl)
 
 -- what a decision asks is settled
-decided_same : (l : LineData) (path : List Decision) (d : Decision) (i : ℕ) → FitsPath l (path ++ d ∷ []) → 2 ≤ length l.stages → i < length path
+decided_same : (l : LineData) (path : List Decision) (d : Decision) (i : ℕ) → FitsPath l (path ++ d ∷ [])
+    → 2 ≤ length l.stages → i < length path
     → arc_of l path (Decided i) ≡ arc_of l (path ++ d ∷ []) (Decided i)
 decided_same l path d i fits two lt =
     let longer = path ++ d ∷ [] in
@@ -51,7 +55,8 @@ decided_same l path d i fits two lt =
     sym (ap (λ (ds : List Decision). arc_of l ds (Decided i)) short) ∙ a ∙ sym b ∙ ap (λ (ds : List Decision). arc_of l ds (Decided i)) whole
 
 -- a constraint's ends are the same below every path that goes on
-pub ends_stay : (l : LineData) (path : List Decision) (d : Decision) (t : Constraint) → FitsPath l (path ++ d ∷ []) → 2 ≤ length l.stages
+pub ends_stay : (l : LineData) (path : List Decision) (d : Decision) (t : Constraint) → FitsPath l (path ++ d ∷ [])
+    → 2 ≤ length l.stages
     → IsConstraint l path t → SameEnds (arc_of l path t) (arc_of l (path ++ d ∷ []) t)
 ends_stay l path d (Min c k) fits two h = (refl, refl)
 ends_stay l path d (Max c k) fits two h = (refl, refl)
@@ -66,7 +71,8 @@ ends_stay l path d (Decided i) fits two h =
     let e = decided_same l path d i fits two h.0 in
     (ap (λ (a : Arc). a.from) e, ap (λ (a : Arc). a.to) e)
 
-walks_stay : (l : LineData) (path : List Decision) (d : Decision) (i i' : ℕ) (walk : List Constraint) (j j' : ℕ) → FitsPath l (path ++ d ∷ [])
+walks_stay : (l : LineData) (path : List Decision) (d : Decision) (i i' : ℕ) (walk : List Constraint) (j j' : ℕ)
+    → FitsPath l (path ++ d ∷ [])
     → 2 ≤ length l.stages → i ≡ i' → j ≡ j' → Walks l path i walk j → Walks l (path ++ d ∷ []) i' walk j'
 walks_stay l path d i i' [] j j' fits two e f h = sym e ∙ h ∙ f
 walks_stay l path d i i' (t ∷ ts) j j' fits two e f h =
@@ -77,7 +83,8 @@ walks_stay l path d i i' (t ∷ ts) j j' fits two e f h =
           (arc_of l (path ++ d ∷ []) t).to ts j j' fits two ends.1 f h.2,
     )
 
-pub closed_stays : (l : LineData) (path : List Decision) (d : Decision) (walk : List Constraint) → FitsPath l (path ++ d ∷ []) → 2 ≤ length l.stages
+pub closed_stays : (l : LineData) (path : List Decision) (d : Decision) (walk : List Constraint)
+    → FitsPath l (path ++ d ∷ []) → 2 ≤ length l.stages
     → IsClosedWalk l path walk → IsClosedWalk l (path ++ d ∷ []) walk
 closed_stays l path d [] fits two h = absurd h
 closed_stays l path d (t ∷ ts) fits two h =

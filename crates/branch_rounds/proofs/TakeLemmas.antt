@@ -42,7 +42,8 @@ narrow_part all done rest e h = λ k x lt is.
     let at : get_or all k x ≡ get_or done k x = sym (ap (λ (ys : List Expanded). get_or ys k x) e) ∙ get_or_append_left done rest x k lt in
     h k x (omega (arith, lt, sym (ap (λ (ys : List Expanded). length ys) e), length-append done rest)) (is ∙ sym at)
 
-narrow_next : (all done rest : List Expanded) (x : Expanded) → done ++ x ∷ rest ≡ all → AreNarrow all → child_count x ≤ 6
+narrow_next : (all done rest : List Expanded) (x : Expanded) → done ++ x ∷ rest ≡ all → AreNarrow all
+    → child_count x ≤ 6
 narrow_next all done rest x e h =
     let at : get_or all (length done) x ≡ x = sym (ap (λ (ys : List Expanded). get_or ys (length done) x) e) ∙ get_or_at done x rest x (length done) refl in
     h (length done) x (omega (arith, sym (ap (λ (ys : List Expanded). length ys) e), length-append done (x ∷ rest))) (sym at)
@@ -91,7 +92,8 @@ ready s all done rest x k tree paths best splits frontier node can t is =
 pub taking_more : (s : Search) (all done rest : List Expanded) (x : Expanded) (k k' : ℕ) (tree tree' : List Node) (paths paths' : List ℕ)
     (best best' : Option plans.Solved) (splits splits' : ℕ) (frontier frontier' : List ℕ) (node : ℕ)
     → CanTake s all → IsTaking s all done (x ∷ rest) k tree paths best splits frontier
-    → node ≡ get_or frontier k 0 → k' ≡ k + 1 → tree' ≡ result_at tree node x → paths' ≡ paths ++ numbers_from (length tree) (child_count x)
+    → node ≡ get_or frontier k 0 → k' ≡ k + 1 → tree' ≡ result_at tree node x
+    → paths' ≡ paths ++ numbers_from (length tree) (child_count x)
     → best' ≡ better best x → splits' ≡ splits + split_count x → frontier' ≡ frontier
     → IsTaking s all (done ++ x ∷ []) rest k' tree' paths' best' splits' frontier'
 taking_more s all done rest x k k' tree tree' paths paths' best best' splits splits' frontier frontier' node can t is ek et ep eb es ef =
@@ -121,7 +123,8 @@ taking_more s all done rest x k k' tree tree' paths paths' best best' splits spl
 -- all were taken
 pub taken_all : (s : Search) (all done rest : List Expanded) (k : ℕ) (tree : List Node) (paths : List ℕ) (best : Option plans.Solved) (splits : ℕ)
     (frontier frontier' : List ℕ)
-    → IsTaking s all done rest k tree paths best splits frontier → length rest ≡ 0 → frontier' ≡ paths ++ drop (length all) frontier
+    → IsTaking s all done rest k tree paths best splits frontier → length rest ≡ 0
+    → frontier' ≡ paths ++ drop (length all) frontier
     → placed_at tree frontier' best splits ≡ after s all
 taken_all s all done [] k tree paths best splits frontier frontier' t none is =
     let e : done ≡ all = sym (append-nil done) ∙ t.whole in

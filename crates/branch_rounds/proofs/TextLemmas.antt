@@ -33,7 +33,8 @@ use Rattle.branch_rounds.proofs.PlacedLemmas.{node_of}
 
 -- ---- walks
 
-token : (l : LineData) (path : List Decision) (t : Constraint) → IsLine l → length path ≤ 20000 → IsConstraint l path t → IsToken t
+token : (l : LineData) (path : List Decision) (t : Constraint) → IsLine l → length path ≤ 20000 → IsConstraint l path t
+    → IsToken t
 token l path (Min c k) line short h = (omega (arith, h.0, line.limits.degree), omega (arith, h.2, line.limits.stages))
 token l path (Max c k) line short h = (omega (arith, h.0, line.limits.degree), omega (arith, h.2, line.limits.stages))
 token l path (Entry c) line short h = omega (arith, h, line.limits.degree)
@@ -41,7 +42,8 @@ token l path (Visit c k) line short h = (omega (arith, h.0, line.limits.degree),
 token l path (Repeat c k) line short h = (omega (arith, h.0, line.limits.degree), omega (arith, h.1, line.limits.stages))
 token l path (Decided i) line short h = omega (arith, h.0, short)
 
-pub walk_text : (l : LineData) (path : List Decision) (walk : List Constraint) → IsLine l → length path ≤ 20000 → IsClosedWalk l path walk → IsShortWalk walk
+pub walk_text : (l : LineData) (path : List Decision) (walk : List Constraint) → IsLine l → length path ≤ 20000
+    → IsClosedWalk l path walk → IsShortWalk walk
     → IsWalk walk
 walk_text l path walk line short closed few = record {
   some = few.0;
@@ -62,14 +64,16 @@ single_one l k e lt =
     (All-get_or (λ (s : Stage). has_one s ≡ true) l.stages k no_stage lt (AllPass-from_list_all has_one l.stages e))
 
 -- a stage with two tanks
-two_tanks : (l : LineData) (k : ℕ) (b : Bool) → is_single l ≡ b → IsStageOf l k → 2 ≤ length (stage l k).tanks → b ≡ false
+two_tanks : (l : LineData) (k : ℕ) (b : Bool) → is_single l ≡ b → IsStageOf l k → 2 ≤ length (stage l k).tanks
+    → b ≡ false
 two_tanks l k true e lt two = absurd (omega (arith, two, single_one l k e lt))
 two_tanks l k false e lt two = refl
 
 pair : (l : LineData) (c k : ℕ) → IsLine l → c < l.degree → k < length l.stages → IsPair c k
 pair l c k line lt lt' = (omega (arith, lt, line.limits.degree), omega (arith, lt', line.limits.stages))
 
-question_text : (l : LineData) (path : List Decision) (question : Question) (children : ℕ) → IsLine l → Fits l path question
+question_text : (l : LineData) (path : List Decision) (question : Question) (children : ℕ) → IsLine l
+    → Fits l path question
     → children ≡ child_count l path question → children ≤ 6 → IsQuestionText (is_single l) question children
 question_text l path (Assign m) children line fits count few =
     let move = fits.stands.move in
@@ -94,17 +98,20 @@ same_tanks l path c c' k fits single lt =
     let e : choice_of path c k ≡ choice_of path c' k = no_choice l path c k fits one ∙ sym (no_choice l path c' k fits one) in
     ap (λ (o : Option ℕ). tanks_by (stage l k).tanks o) e
 
-same_service : (l : LineData) (path : List Decision) (h c c' k : ℕ) → FitsPath l path → is_single l ≡ true → IsStageOf l k → MayServe l path h c' k
+same_service : (l : LineData) (path : List Decision) (h c c' k : ℕ) → FitsPath l path → is_single l ≡ true
+    → IsStageOf l k → MayServe l path h c' k
     → MayServe l path h c k
 same_service l path h c c' k fits single lt serves =
     let T : List ℕ → Type 0 = λ ts. Contains ts serves.0 in
     (serves.0, subst T (same_tanks l path c' c k fits single lt) serves.1, serves.2)
 
-same_stuck : (l : LineData) (path : List Decision) (c c' k : ℕ) → FitsPath l path → is_single l ≡ true → IsStep l k → IsStuck l path c k → IsStuck l path c' k
+same_stuck : (l : LineData) (path : List Decision) (c c' k : ℕ) → FitsPath l path → is_single l ≡ true → IsStep l k
+    → IsStuck l path c k → IsStuck l path c' k
 same_stuck l path c c' k fits single step stuck = λ h lt reach.
     stuck h lt (same_service l path h c c' k fits single (omega (arith, step)) reach.0, same_service l path h c c' (k + 1) fits single step reach.1)
 
-stuck_text : (l : LineData) (path : List Decision) (m : MoveId) (b : Bool) → IsLine l → FitsPath l path → IsFirstStuck l path m → is_single l ≡ b
+stuck_text : (l : LineData) (path : List Decision) (m : MoveId) (b : Bool) → IsLine l → FitsPath l path
+    → IsFirstStuck l path m → is_single l ≡ b
     → IsStuckText b m.carrier m.step
 stuck_text l path m true line fits first single =
     ⊎_elim
@@ -117,14 +124,16 @@ stuck_text l path m false line fits first single = pair l m.carrier m.step line 
 
 -- ---- nodes
 
-walk_in : (l : LineData) (path : List Decision) (walks : List (List Constraint)) (bound : ℕ) (walk : List Constraint) → IsLine l → length path ≤ 20000
+walk_in : (l : LineData) (path : List Decision) (walks : List (List Constraint)) (bound : ℕ) (walk : List Constraint)
+    → IsLine l → length path ≤ 20000
     → RefuteBelow l path walks bound → Contains walks walk → IsShortWalk walk → IsWalk walk
 walk_in l path walks bound walk line short shows there few = walk_text l path walk line short (shows.closed walk there) few
 
 pub only : (walk : List Constraint) → Contains (walk ∷ []) walk
 only walk = (0, omega arith, refl)
 
-closed_text : (l : LineData) (path : List Decision) (low high : Option (List Constraint)) (cap : ℕ) → IsLine l → length path ≤ 20000
+closed_text : (l : LineData) (path : List Decision) (low high : Option (List Constraint)) (cap : ℕ) → IsLine l
+    → length path ≤ 20000
     → RefuteBelow l path (option_to_list low ++ option_to_list high) cap
     → (IsSome low ⊎ IsSome high) × IfSome low IsShortWalk × IfSome high IsShortWalk → AreWalks low high
 closed_text l path None None cap line short shows few = ⊎_elim (λ no. cc) (λ no. cc) few.0
@@ -137,7 +146,8 @@ closed_text l path (Some low) (Some high) cap line short shows few = (
 )
 
 -- the node that an expansion makes
-pub node_text : (l : LineData) (path : List Decision) (cap first : ℕ) (x : Expanded) → IsLine l → FitsPath l path → length path ≤ 20000 → IsShown l path cap x
+pub node_text : (l : LineData) (path : List Decision) (cap first : ℕ) (x : Expanded) → IsLine l → FitsPath l path
+    → length path ≤ 20000 → IsShown l path cap x
     → IsNodeText (is_single l) (node_of first x)
 node_text l path cap first (expanded.Stuck m) line fits short s = stuck_text l path m (is_single l) line fits s.expansion refl
 node_text l path cap first (expanded.Closed low high) line fits short s = closed_text l path low high cap line short s.shows s.few
@@ -147,6 +157,7 @@ node_text l path cap first (expanded.Split question children period low) line fi
     question_text l path question (length (numbers_from first children)) line s.shows.3 (omega (arith, size, s.shows.4)) (omega (arith, size, s.shows.6))
 
 -- the low of a split's children
-pub low_text : (l : LineData) (path : List Decision) (cap : ℕ) (question : Question) (children period : ℕ) (low : List Constraint) → IsLine l
+pub low_text : (l : LineData) (path : List Decision) (cap : ℕ) (question : Question) (children period : ℕ) (low : List Constraint)
+    → IsLine l
     → length path ≤ 20000 → IsShown l path cap (expanded.Split question children period low) → IsWalk low
 low_text l path cap question children period low line short s = walk_in l path (low ∷ []) period low line short s.shows.0 (only low) s.few

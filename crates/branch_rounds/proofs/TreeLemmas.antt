@@ -13,7 +13,8 @@ use Rattle.choice_tree.proofs.NodeLemmas.{length-numbers_from, get_or-numbers_fr
 use Rattle.choice_tree.proofs.SplitLemmas.{end_is_tree, split_is_tree}
 use Rattle.choice_tree.proofs.PathLemmas.{branch_later}
 
--- in the new tree node i, which was left, is another node, and its children, left with a low, stand behind the old nodes
+-- in the new tree node i, which was left, is another node, and its children, left with a low, stand behind the old
+-- nodes
 pub record Grows (old new : List Node) (i : ℕ) (node : Node) (count : ℕ) (low : List Constraint) : Type 0 where
   pub there : i < length old
   pub left : IsLeft (node_at old i)
@@ -25,7 +26,8 @@ pub record Grows (old new : List Node) (i : ℕ) (node : Node) (count : ℕ) (lo
   pub fresh : (k : ℕ) → length old ≤ k → k < length new → node_at new k ≡ Left (Some low)
   pub children : children_of node ≡ numbers_from (length old) count
 
-pub grows_end : (old : List Node) (i : ℕ) (leaf : Node) → IsTree old → i < length old → IsLeft (node_at old i) → IsLeaf leaf
+pub grows_end : (old : List Node) (i : ℕ) (leaf : Node) → IsTree old → i < length old → IsLeft (node_at old i)
+    → IsLeaf leaf
     → Grows old (set old i leaf) i leaf 0 []
 grows_end old i leaf tree lt left is_leaf = record {
   there = lt;
@@ -39,7 +41,8 @@ grows_end old i leaf tree lt left is_leaf = record {
   children = leaf_has_none leaf is_leaf;
 }
 
-pub grows_split : (old : List Node) (i : ℕ) (q : Question) (count : ℕ) (low : List Constraint) → IsTree old → i < length old → IsLeft (node_at old i)
+pub grows_split : (old : List Node) (i : ℕ) (q : Question) (count : ℕ) (low : List Constraint) → IsTree old
+    → i < length old → IsLeft (node_at old i)
     → count ≤ 6 → length old + count < 2 ^ 32
     → Grows old (split_at old i q count low) i (Split q (numbers_from (length old) count)) count low
 grows_split old i q count low tree lt left few room =
@@ -99,7 +102,8 @@ at_new old new i node count low a d ds k j g e b rest =
     let left = left_is low (node_at new k) (g.fresh k (omega (arith, at)) (omega (arith, at, below, g.size))) in
     ends ds rest asks below at left
   where
-    ends : (ds : List Decision) → Leads new k ds j → (asks : node ≡ Split d.question b.children) → d.child < count → k ≡ length old + d.child
+    ends : (ds : List Decision) → Leads new k ds j → (asks : node ≡ Split d.question b.children) → d.child < count
+        → k ≡ length old + d.child
         → IsLeft (node_at new k) → NewChild old i node count a (d ∷ ds) j
     ends [] same asks below at left =
         record { before = []; last = d; is = refl; leads = e; children = b.children; asks = asks; child = below; at = omega (arith, at, same) }

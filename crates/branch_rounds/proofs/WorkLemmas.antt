@@ -11,14 +11,16 @@ use Rattle.worker_pool.specs.Pool.{AreAnswers as AreAnswersOf}
 use Rattle.branch_rounds.specs.Grown.{Search, cap_of}
 use Rattle.branch_rounds.specs.Kept.{IsKept, CanExpand, IsShown, ArePaths, AreAnswers}
 
-pub can_expand : (l : LineData) (s : Search) (cap : ℕ) (paths : List (List Decision)) → IsLine l → IsKept l s → s.splits ≤ 20000 → IsCap cap
+pub can_expand : (l : LineData) (s : Search) (cap : ℕ) (paths : List (List Decision)) → IsLine l → IsKept l s
+    → s.splits ≤ 20000 → IsCap cap
     → ArePaths s paths → All (λ path. CanExpand l path cap) paths
 can_expand l s cap paths line kept short range leads = λ k d lt.
     let path : List Decision = get_or paths k d in
     let f = kept.fits (get_or s.frontier k 0) path (leads k path lt (get_or_default paths k d path lt)) in
     record { valid = line; fits = f.0; short = omega (arith, f.1, short); range = range }
 
-pub answers_of_jobs : (l : LineData) (s : Search) (cap : ℕ) (paths : List (List Decision)) (xs : List Expanded) → cap ≡ cap_of l s.best → ArePaths s paths
+pub answers_of_jobs : (l : LineData) (s : Search) (cap : ℕ) (paths : List (List Decision)) (xs : List Expanded)
+    → cap ≡ cap_of l s.best → ArePaths s paths
     → AreAnswersOf (λ path x. IsShown l path cap x) paths xs → AreAnswers l s xs
 answers_of_jobs l s cap paths xs cap_is leads answers = λ k x lt is.
     let at = slice_get-get_or xs k x lt in
@@ -33,7 +35,8 @@ answers_of_jobs l s cap paths xs cap_is leads answers = λ k x lt is.
 
 -- the same of what answers the jobs, where it isn't an error
 pub answers_if_ok : {V E : Type 0} (items : V → List Expanded) (l : LineData) (s : Search) (cap : ℕ) (paths jobs : List (List Decision)) (r : Result V E)
-    → jobs ≡ paths → cap ≡ cap_of l s.best → ArePaths s paths → IfOk r (λ v. AreAnswersOf (λ path x. IsShown l path cap x) jobs (items v))
+    → jobs ≡ paths → cap ≡ cap_of l s.best → ArePaths s paths
+    → IfOk r (λ v. AreAnswersOf (λ path x. IsShown l path cap x) jobs (items v))
     → IfOk r (λ v. AreAnswers l s (items v))
 answers_if_ok items l s cap paths jobs (Ok v) same cap_is leads answers =
     let J : List (List Decision) → Type 0 = λ ps. AreAnswersOf (λ path x. IsShown l path cap x) ps (items v) in

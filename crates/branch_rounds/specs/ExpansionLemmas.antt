@@ -37,7 +37,8 @@ move_by c k = record { carrier = c; step = k }
 same_move : (m n : MoveId) → m.carrier ≡ n.carrier → m.step ≡ n.step → m ≡ n
 same_move m n e f = ap (λ (c : ℕ). move_by c m.step) e ∙ ap (λ (k : ℕ). move_by n.carrier k) f
 
-first_stuck_is_one : (l : LineData) (path : List Decision) (m n : MoveId) → IsFirstStuck l path m → IsFirstStuck l path n → m ≡ n
+first_stuck_is_one : (l : LineData) (path : List Decision) (m n : MoveId) → IsFirstStuck l path m
+    → IsFirstStuck l path n → m ≡ n
 first_stuck_is_one l path m n a b =
     ⊎_elim
     (λ e.
@@ -63,14 +64,16 @@ record SameFloor (period period' : ℕ) (low low' : List Constraint) : Type 0 wh
   period_is : period ≡ period'
   low_is : low ≡ low'
 
-floor_is_one : (l : LineData) (path : List Decision) (cap period period' : ℕ) (low low' : List Constraint) → IsFloor l path cap period low
+floor_is_one : (l : LineData) (path : List Decision) (cap period period' : ℕ) (low low' : List Constraint)
+    → IsFloor l path cap period low
     → IsFloor l path cap period' low' → SameFloor period period' low low'
 floor_is_one l path cap period period' low low' a b =
     let e : Floor period (Some a.walk) ≡ Floor period' (Some b.walk) = sym a.climb ∙ b.climb in
     let walk : a.walk ≡ b.walk = cc in
     record { period_is = cc; low_is = a.names ∙ ap (λ (w : WalkData). named l path w) walk ∙ sym b.names }
 
-shut_is_one : (l : LineData) (path : List Decision) (cap : ℕ) (low high low' high' : Option (List Constraint)) → IsShut l path cap low high
+shut_is_one : (l : LineData) (path : List Decision) (cap : ℕ) (low high low' high' : Option (List Constraint))
+    → IsShut l path cap low high
     → IsShut l path cap low' high' → (low ≡ low') × (high ≡ high')
 shut_is_one l path cap low high low' high' a b =
     let e : Shut a.low_walk a.high_walk ≡ Shut b.low_walk b.high_walk = sym a.climb ∙ b.climb in
@@ -87,7 +90,8 @@ shut_or_floor l path cap period low high low' a b =
 
 -- ---- solved paths
 
-pub same_numbers : (xs ys : List ℕ) → length xs ≡ length ys → ((i : ℕ) → i < length xs → get_or xs i 0 ≡ get_or ys i 0) → xs ≡ ys
+pub same_numbers : (xs ys : List ℕ) → length xs ≡ length ys → ((i : ℕ) → i < length xs → get_or xs i 0 ≡ get_or ys i 0)
+    → xs ≡ ys
 same_numbers [] [] e h = refl
 same_numbers [] (y ∷ ys) e h = absurd (omega (arith, e))
 same_numbers (x ∷ xs) [] e h = absurd (omega (arith, e))
@@ -98,7 +102,8 @@ same_numbers (x ∷ xs) (y ∷ ys) e h =
 some_same : (o : Option ℕ) (a b : ℕ) → o ≡ Some a → o ≡ Some b → a ≡ b
 some_same o a b e f = cc
 
-hoists_are_one : (l : LineData) (path : List Decision) (s s' : plans.Solved) → IsLine l → Settles l path s → Settles l path s' → length s.hoists ≡ move_count l
+hoists_are_one : (l : LineData) (path : List Decision) (s s' : plans.Solved) → IsLine l → Settles l path s
+    → Settles l path s' → length s.hoists ≡ move_count l
     → length s'.hoists ≡ move_count l → s.hoists ≡ s'.hoists
 hoists_are_one l path s s' line a b count count' =
     same_numbers s.hoists s'.hoists (count ∙ sym count')
@@ -111,7 +116,8 @@ hoists_are_one l path s s' line a b count count' =
     subst P (number_of_move l i)
     (some_same (hoist_below l path c k) (get_or s.hoists (move_number l c k) 0) (get_or s'.hoists (move_number l c k) 0) (a.hoist c k m) (b.hoist c k m)))
 
-routes_are_one : (l : LineData) (path : List Decision) (s s' : plans.Solved) → IsLine l → Settles l path s → Settles l path s' → IsRoute l s.tanks
+routes_are_one : (l : LineData) (path : List Decision) (s s' : plans.Solved) → IsLine l → Settles l path s
+    → Settles l path s' → IsRoute l s.tanks
     → IsRoute l s'.tanks → s.tanks ≡ s'.tanks
 routes_are_one l path s s' line a b route route' =
     same_numbers s.tanks s'.tanks (route.count ∙ sym route'.count)
@@ -125,7 +131,8 @@ routes_are_one l path s s' line a b route route' =
 abbrev solved_by : ℕ → List ℤ → List ℕ → List ℕ → plans.Solved
 solved_by period ticks hoists tanks = record { period = period; ticks = ticks; hoists = hoists; tanks = tanks }
 
-same_solved : (s s' : plans.Solved) → s.period ≡ s'.period → s.ticks ≡ s'.ticks → s.hoists ≡ s'.hoists → s.tanks ≡ s'.tanks → s ≡ s'
+same_solved : (s s' : plans.Solved) → s.period ≡ s'.period → s.ticks ≡ s'.ticks → s.hoists ≡ s'.hoists
+    → s.tanks ≡ s'.tanks → s ≡ s'
 same_solved s s' period ticks hoists tanks =
     ap (λ (t : ℕ). solved_by t s.ticks s.hoists s.tanks) period ∙ ap (λ (ts : List ℤ). solved_by s'.period ts s.hoists s.tanks) ticks
     ∙ ap (λ (hs : List ℕ). solved_by s'.period s'.ticks hs s.tanks) hoists ∙ ap (λ (r : List ℕ). solved_by s'.period s'.ticks s'.hoists r) tanks
@@ -135,7 +142,8 @@ abbrev Asks : LineData → List Decision → ℕ → Option Question → List �
 Asks l path period question ticks = IsLeastSolution (system_below l path) period ticks × IsFirstQuestion l path (tick_at ticks) period question
 
 -- at the same period they are the same ticks
-asks_same : (l : LineData) (path : List Decision) (period period' : ℕ) (question : Option Question) (ticks ticks' : List ℤ) → period ≡ period'
+asks_same : (l : LineData) (path : List Decision) (period period' : ℕ) (question : Option Question) (ticks ticks' : List ℤ)
+    → period ≡ period'
     → IsLeastSolution (system_below l path) period ticks → Asks l path period' question ticks'
     → (ticks ≡ ticks') × IsFirstQuestion l path (tick_at ticks) period question
 asks_same l path period period' question ticks ticks' e least asks =
@@ -145,22 +153,26 @@ asks_same l path period period' question ticks ticks' e least asks =
     let Q : List ℤ → Type 0 = λ ts. IsFirstQuestion l path (tick_at ts) period question in
     (same, subst Q (sym same) here.1)
 
-some_or_none : (l : LineData) (path : List Decision) (ticks : ℕ → ℤ) (period : ℕ) (x : Question) → IsFirstQuestion l path ticks period None
+some_or_none : (l : LineData) (path : List Decision) (ticks : ℕ → ℤ) (period : ℕ) (x : Question)
+    → IsFirstQuestion l path ticks period None
     → IsFirstQuestion l path ticks period (Some x) → ⊥
 some_or_none l path ticks period x none first = none x (record { stands = first.0.stands; fails = first.1 })
 
 -- ---- all expansions
 
-same_closed : (low low' high high' : Option (List Constraint)) → low ≡ low' → high ≡ high' → Closed low high ≡ Closed low' high'
+same_closed : (low low' high high' : Option (List Constraint)) → low ≡ low' → high ≡ high'
+    → Closed low high ≡ Closed low' high'
 same_closed low low' high high' e f = ap (λ (o : Option (List Constraint)). Closed o high) e ∙ ap (λ (o : Option (List Constraint)). Closed low' o) f
 
-same_split : (x y : Question) (n n' period period' : ℕ) (low low' : List Constraint) → x ≡ y → n ≡ n' → period ≡ period' → low ≡ low'
+same_split : (x y : Question) (n n' period period' : ℕ) (low low' : List Constraint) → x ≡ y → n ≡ n' → period ≡ period'
+    → low ≡ low'
     → Split x n period low ≡ Split y n' period' low'
 same_split x y n n' period period' low low' e f g h =
     ap (λ (q : Question). Split q n period low) e ∙ ap (λ (c : ℕ). Split y c period low) f ∙ ap (λ (t : ℕ). Split y n' t low) g ∙ ap
     (λ (w : List Constraint). Split y n' period' w) h
 
-pub expansion_is_one : (l : LineData) (path : List Decision) (cap : ℕ) (x y : Expanded) → IsLine l → IsExpansion l path cap x → IsExpansion l path cap y → x ≡ y
+pub expansion_is_one : (l : LineData) (path : List Decision) (cap : ℕ) (x y : Expanded) → IsLine l
+    → IsExpansion l path cap x → IsExpansion l path cap y → x ≡ y
 expansion_is_one l path cap (Stuck m) (Stuck n) line a b = ap Stuck (first_stuck_is_one l path m n a b)
 expansion_is_one l path cap (Stuck m) (Closed low high) line a b = absurd (b.0 m.carrier m.step a.move a.stuck)
 expansion_is_one l path cap (Stuck m) (Solved s low) line a b = absurd (b.0 m.carrier m.step a.move a.stuck)
@@ -196,7 +208,8 @@ expansion_is_one l path cap (Split q n period low) (Split q' n' period' low') li
     same_split q q' n n' period period' low low' same count f.period_is f.low_is
 
 -- none has more than six children
-pub few_below : (l : LineData) (path : List Decision) (cap : ℕ) (x : Expanded) → IsLine l → IsExpansion l path cap x → child_count x ≤ 6
+pub few_below : (l : LineData) (path : List Decision) (cap : ℕ) (x : Expanded) → IsLine l → IsExpansion l path cap x
+    → child_count x ≤ 6
 few_below l path cap (Stuck m) line a = omega arith
 few_below l path cap (Closed low high) line a = omega arith
 few_below l path cap (Solved s low) line a = omega arith

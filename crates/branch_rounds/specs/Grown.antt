@@ -115,11 +115,13 @@ LowRefutes l path (nodes.Solved low) period = ⊥
 LowRefutes l path (Left None) period = ⊥
 LowRefutes l path (Left (Some low)) period = RefutesPeriod l path period low
 
--- the lows of all paths left refute every period below the bound; it is the cap, or the low of some path left doesn't refute it
+-- the lows of all paths left refute every period below the bound; it is the cap, or the low of some path left doesn't
+-- refute it
 pub record IsBound (l : LineData) (s : Search) (bound : ℕ) : Type 0 where
   pub some : 1 ≤ bound
   pub most : bound ≤ cap_of l s.best
-  pub refuted : (k : ℕ) (path : List Decision) (period : ℕ) → k < length s.frontier → IsPathTo s.tree (get_or s.frontier k 0) path
+  pub refuted : (k : ℕ) (path : List Decision) (period : ℕ) → k < length s.frontier
+      → IsPathTo s.tree (get_or s.frontier k 0) path
       → 1 ≤ period → period < bound → LowRefutes l path (node_at s.tree (get_or s.frontier k 0)) period
   pub met : (bound ≡ cap_of l s.best)
       ⊎ ((k : ℕ) × (path : List Decision) × (k < length s.frontier) × IsPathTo s.tree (get_or s.frontier k 0) path

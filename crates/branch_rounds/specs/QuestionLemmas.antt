@@ -79,7 +79,8 @@ in_order x y =
     (λ differ. ⊎_elim (λ lt. inr (inl (inl lt))) (λ gt. inr (inr (inl gt))) differ)
     (cases_order (kind_of x) (kind_of y))
 
-pub first_question_is_one : (l : LineData) (path : List Decision) (ticks : ℕ → ℤ) (period : ℕ) (x y : Question) → IsFirstQuestion l path ticks period (Some x)
+pub first_question_is_one : (l : LineData) (path : List Decision) (ticks : ℕ → ℤ) (period : ℕ) (x y : Question)
+    → IsFirstQuestion l path ticks period (Some x)
     → IsFirstQuestion l path ticks period (Some y) → x ≡ y
 first_question_is_one l path ticks period x y first other =
     let asked : IsAsked l path ticks period x = record { stands = first.0.stands; fails = first.1 } in

@@ -14,10 +14,10 @@ use Rattle.branch_rounds.specs.declared.outcome.Outcome.{Outcome}
 use Rattle.branch_rounds.specs.Grown.{cap_of, IsGrown}
 use Rattle.branch_rounds.specs.Counted.{split_nodes}
 
--- The rounds of the line within the budget lead to the outcome. Its tree proves its bound, so that no legal timetable has a
--- smaller period, and its best can be planned. Where nothing is left, the bound is the best's period, or one more than the
--- greatest period where there is no best; where something is left, the budget is spent. A budget that is enough for the line
--- leaves nothing.
+-- The rounds of the line within the budget lead to the outcome. Its tree proves its bound, so that no legal timetable
+-- has a smaller period, and its best can be planned. Where nothing is left, the bound is the best's period, or one more
+-- than the greatest period where there is no best; where something is left, the budget is spent. A budget that is
+-- enough for the line leaves nothing.
 pub record IsSearched (l : LineData) (budget : ℕ) (o : Outcome) : Type 0 where
   pub grown : IsGrown l budget o
   pub valid : IsLine l

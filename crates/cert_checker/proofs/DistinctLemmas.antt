@@ -19,7 +19,8 @@ use Rattle.answer_text.proofs.OrderLemmas.{preorder_there}
 
 -- ---- each node with a path is there
 
-branch_there : (nodes : List Node) (k : ℕ) (d : Decision) (j : ℕ) → Branches nodes k d j → Contains (children_of (node_at nodes k)) j
+branch_there : (nodes : List Node) (k : ℕ) (d : Decision) (j : ℕ) → Branches nodes k d j
+    → Contains (children_of (node_at nodes k)) j
 branch_there nodes k d j b =
     let e : b.children ≡ children_of (node_at nodes k) = sym (ap children_of b.split) in
     let C : List ℕ → Type 0 = λ cs. Contains cs j in
@@ -27,7 +28,8 @@ branch_there nodes k d j b =
     let P : ℕ → Type 0 = λ n. Contains b.children n in
     subst C e (subst P b.child at)
 
-pub reached : (nodes : List Node) → IsTree nodes → (k : ℕ) (ds : List Decision) (i : ℕ) → k < length nodes → Leads nodes k ds i → Contains (below nodes k) i
+pub reached : (nodes : List Node) → IsTree nodes → (k : ℕ) (ds : List Decision) (i : ℕ) → k < length nodes
+    → Leads nodes k ds i → Contains (below nodes k) i
 reached nodes tree k [] i lt e =
     let C : List ℕ → Type 0 = λ xs. Contains xs i in
     let P : ℕ → Type 0 = λ n. Contains (k ∷ flat_map (below nodes) (children_of (node_at nodes k))) n in
@@ -51,7 +53,8 @@ distinct-cons x xs none rest zero (suc k) lt below e =
     none (subst P (sym e) (Contains-get_or xs k 0 (omega (arith, below))))
 distinct-cons x xs none rest (suc j) (suc k) lt below e = rest j k (omega (arith, lt)) (omega (arith, below)) e
 
-distinct-append : (xs ys : List ℕ) → AreDistinct xs → AreDistinct ys → ((x : ℕ) → Contains xs x → Contains ys x → ⊥) → AreDistinct (xs ++ ys)
+distinct-append : (xs ys : List ℕ) → AreDistinct xs → AreDistinct ys → ((x : ℕ) → Contains xs x → Contains ys x → ⊥)
+    → AreDistinct (xs ++ ys)
 distinct-append [] ys a b apart = b
 distinct-append (x ∷ xs) ys a b apart =
     distinct-cons x (xs ++ ys)
@@ -62,7 +65,8 @@ distinct-append (x ∷ xs) ys a b apart =
     (Contains-append_cases xs ys x c))
     (distinct-append xs ys (λ j k lt in_it e. a (suc j) (suc k) (omega (arith, lt)) (omega (arith, in_it)) e) b (λ y c d. apart y (contains_rest x y xs c) d))
 
-in_flat_map : (f : ℕ → List ℕ) (xs : List ℕ) (y : ℕ) → Contains (flat_map f xs) y → (k : ℕ) × (k < length xs) × Contains (f (get_or xs k 0)) y
+in_flat_map : (f : ℕ → List ℕ) (xs : List ℕ) (y : ℕ) → Contains (flat_map f xs) y
+    → (k : ℕ) × (k < length xs) × Contains (f (get_or xs k 0)) y
 in_flat_map f [] y c = absurd (omega (arith, c.1))
 in_flat_map f (x ∷ xs) y c =
     ⊎_elim
@@ -75,7 +79,8 @@ abbrev IsRow : List Node → ℕ → Question → ℕ → List ℕ → Type 0
 IsRow nodes i question m cs = (k : ℕ) → k < length cs → Branches nodes i (record { question = question; child = m + k }) (get_or cs k 0)
 
 -- a node branches by one question
-whole_row : (nodes : List Node) (i : ℕ) (node : Node) → node_at nodes i ≡ node → (question : Question) × IsRow nodes i question 0 (children_of node)
+whole_row : (nodes : List Node) (i : ℕ) (node : Node) → node_at nodes i ≡ node
+    → (question : Question) × IsRow nodes i question 0 (children_of node)
 whole_row nodes i (Split question children) e = (
   question,
   λ k lt. let z : 0 + k ≡ k = omega arith in
@@ -87,14 +92,16 @@ whole_row nodes i (Solved low) e = (Choose (record { carrier = 0; stage = 0 }), 
 whole_row nodes i (Left low) e = (Choose (record { carrier = 0; stage = 0 }), λ k lt. absurd (omega (arith, lt)))
 
 -- the rest of a row
-next_row : (nodes : List Node) (i : ℕ) (question : Question) (m c : ℕ) (cs : List ℕ) → IsRow nodes i question m (c ∷ cs) → IsRow nodes i question (m + 1) cs
+next_row : (nodes : List Node) (i : ℕ) (question : Question) (m c : ℕ) (cs : List ℕ) → IsRow nodes i question m (c ∷ cs)
+    → IsRow nodes i question (m + 1) cs
 next_row nodes i question m c cs row = λ k lt.
     let e : m + suc k ≡ m + 1 + k = omega arith in
     let P : ℕ → Type 0 = λ n. Branches nodes i (record { question = question; child = n }) (get_or cs k 0) in
     subst P e (row (suc k) (omega (arith, lt)))
 
 -- what is below a node is reached from it
-leads_to : (nodes : List Node) (depth i j : ℕ) → Contains (preorder_below depth nodes i) j → (ds : List Decision) × Leads nodes i ds j
+leads_to : (nodes : List Node) (depth i j : ℕ) → Contains (preorder_below depth nodes i) j
+    → (ds : List Decision) × Leads nodes i ds j
 leads_to nodes zero i j c = absurd (omega (arith, c.1))
 leads_to nodes (suc depth) i j c =
     ⊎_elim
@@ -106,7 +113,8 @@ leads_to nodes (suc depth) i j c =
     (record { question = question; child = 0 + r.0 } ∷ rest.0, (get_or (children_of (node_at nodes i)) r.0 0, row r.0 r.1, rest.1)))
     (contains_cases i j (flat_map (preorder_below depth nodes) (children_of (node_at nodes i))) c)
 
-leads-append : (nodes : List Node) (i j k : ℕ) (ds es : List Decision) → Leads nodes i ds j → Leads nodes j es k → Leads nodes i (ds ++ es) k
+leads-append : (nodes : List Node) (i j k : ℕ) (ds es : List Decision) → Leads nodes i ds j → Leads nodes j es k
+    → Leads nodes i (ds ++ es) k
 leads-append nodes i j k [] es e rest = let P : ℕ → Type 0 = λ n. Leads nodes n es k in subst P (sym e) rest
 leads-append nodes i j k (d ∷ ds) es (n, b, first) rest = (n, b, leads-append nodes n j k ds es first rest)
 
@@ -118,8 +126,10 @@ same_child : (d d' : Decision) (ds ds' : List Decision) → d ∷ ds ≡ d' ∷ 
 same_child d d' ds ds' e = let same : d ≡ d' = cc in ap (λ (x : Decision). x.child) same
 
 -- two children lead to different nodes
-apart : (nodes : List Node) → IsTree nodes → (i j m n c c' : ℕ) (p : List Decision) (question : Question) (depth : ℕ) → IsPathTo nodes i p
-    → Branches nodes i (record { question = question; child = m }) c → Branches nodes i (record { question = question; child = n }) c'
+apart : (nodes : List Node) → IsTree nodes → (i j m n c c' : ℕ) (p : List Decision) (question : Question) (depth : ℕ)
+    → IsPathTo nodes i p
+    → Branches nodes i (record { question = question; child = m }) c
+    → Branches nodes i (record { question = question; child = n }) c'
     → Contains (preorder_below depth nodes c) j → Contains (preorder_below depth nodes c') j → m ≡ n
 apart nodes tree i j m n c c' p question depth lead b b' in_c in_c' =
     let first = leads_to nodes depth c j in_c in
@@ -131,7 +141,8 @@ apart nodes tree i j m n c c' p question depth lead b b' in_c in_c' =
     same_child d d' first.0 second.0 (cancel p (d ∷ first.0) (d' ∷ second.0) (one_path nodes j (p ++ d ∷ first.0) (p ++ d' ∷ second.0) tree long long'))
 
 -- no node is below itself
-not_below : (nodes : List Node) → IsTree nodes → (i c : ℕ) (p : List Decision) (d : Decision) (depth : ℕ) → IsPathTo nodes i p → Branches nodes i d c
+not_below : (nodes : List Node) → IsTree nodes → (i c : ℕ) (p : List Decision) (d : Decision) (depth : ℕ)
+    → IsPathTo nodes i p → Branches nodes i d c
     → Contains (preorder_below depth nodes c) i → ⊥
 not_below nodes tree i c p d depth lead b in_c =
     let rest = leads_to nodes depth c i in_c in
@@ -139,9 +150,11 @@ not_below nodes tree i c p d depth lead b in_c =
     let same = one_path nodes i p (p ++ d ∷ rest.0) tree lead long in
     omega (arith, ap (λ (xs : List Decision). length xs) same, length-append p (d ∷ rest.0))
 
-mutual_row : (nodes : List Node) → IsTree nodes → (i m : ℕ) (p : List Decision) (question : Question) (depth : ℕ) (cs : List ℕ) → IsPathTo nodes i p
+mutual_row : (nodes : List Node) → IsTree nodes
+    → (i m : ℕ) (p : List Decision) (question : Question) (depth : ℕ) (cs : List ℕ) → IsPathTo nodes i p
     → IsRow nodes i question m cs
-    → ((c : ℕ) (q : List Decision) → IsPathTo nodes c q → AreDistinct (preorder_below depth nodes c)) → AreDistinct (flat_map (preorder_below depth nodes) cs)
+    → ((c : ℕ) (q : List Decision) → IsPathTo nodes c q → AreDistinct (preorder_below depth nodes c))
+    → AreDistinct (flat_map (preorder_below depth nodes) cs)
 mutual_row nodes tree i m p question depth [] lead row each = λ j k lt in_it e. omega (arith, in_it)
 mutual_row nodes tree i m p question depth (c ∷ cs) lead row each =
     let d : Decision = record { question = question; child = m + 0 } in
@@ -154,7 +167,8 @@ mutual_row nodes tree i m p question depth (c ∷ cs) lead row each =
     let b' = next_row nodes i question m c cs row r.0 r.1 in
     omega (arith, apart nodes tree i x (m + 0) (m + 1 + r.0) c (get_or cs r.0 0) p question depth lead b b' here r.2))
 
-distinct_below : (nodes : List Node) → IsTree nodes → (depth i : ℕ) (p : List Decision) → IsPathTo nodes i p → AreDistinct (preorder_below depth nodes i)
+distinct_below : (nodes : List Node) → IsTree nodes → (depth i : ℕ) (p : List Decision) → IsPathTo nodes i p
+    → AreDistinct (preorder_below depth nodes i)
 distinct_below nodes tree zero i p lead = λ j k lt in_it e. omega (arith, in_it)
 distinct_below nodes tree (suc depth) i p lead =
     let (question, row) = whole_row nodes i (node_at nodes i) refl in
@@ -191,7 +205,8 @@ child_branch nodes i m j h =
     let P : ℕ → Type 0 = λ n. Branches nodes i d n in
     (d, subst P h.child (row m h.there))
 
-path_below : (nodes : List Node) → IsTree nodes → (most i : ℕ) → i ≤ most → i < length nodes → (p : List Decision) × IsPathTo nodes i p
+path_below : (nodes : List Node) → IsTree nodes → (most i : ℕ) → i ≤ most → i < length nodes
+    → (p : List Decision) × IsPathTo nodes i p
 path_below nodes tree most zero le lt = ([], refl)
 path_below nodes tree zero (suc i) le lt = absurd (omega (arith, le))
 path_below nodes tree (suc most) (suc i) le lt =

@@ -39,20 +39,23 @@ pub length-nexts : (o : Option (List Constraint)) → length (nexts o) ≡ lengt
 length-nexts None = refl
 length-nexts (Some walk) = length-followers walk
 
-pub words_are : (low high : Option (List Constraint)) → joined (option_to_list low ++ option_to_list high) ≡ words low ++ words high
+pub words_are : (low high : Option (List Constraint))
+    → joined (option_to_list low ++ option_to_list high) ≡ words low ++ words high
 words_are None None = refl
 words_are None (Some b) = append-nil b
 words_are (Some a) None = refl
 words_are (Some a) (Some b) = ap (λ (xs : List Constraint). a ++ xs) (append-nil b)
 
-pub nexts_are : (low high : Option (List Constraint)) → flat_map followers (option_to_list low ++ option_to_list high) ≡ nexts low ++ nexts high
+pub nexts_are : (low high : Option (List Constraint))
+    → flat_map followers (option_to_list low ++ option_to_list high) ≡ nexts low ++ nexts high
 nexts_are None None = refl
 nexts_are None (Some b) = append-nil (followers b)
 nexts_are (Some a) None = refl
 nexts_are (Some a) (Some b) = ap (λ (xs : List Constraint). followers a ++ xs) (append-nil (followers b))
 
 -- constraint j of both walks is one of the first, or of the second
-pub word_cases : (low high : Option (List Constraint)) (j : ℕ) → j < length (joined (option_to_list low ++ option_to_list high))
+pub word_cases : (low high : Option (List Constraint)) (j : ℕ)
+    → j < length (joined (option_to_list low ++ option_to_list high))
     → (j < length (words low)) ⊎ ((length (words low) ≤ j) × (j - length (words low) < length (words high)))
 word_cases low high j lt =
     let size = ap (λ (xs : List Constraint). length xs) (words_are low high) in
@@ -95,21 +98,25 @@ pub record IsSound (l : LineData) (path : List Decision) (o : Option (List Const
   pub tied : (k : ℕ) → k < length (words o) → IsTiedIn l path o k
 
 -- a walk up to node (arc_of l path e).from, each constraint with the next one
-walk_there : (l : LineData) (path : List Decision) (i : ℕ) (ts : List Constraint) (j : ℕ) → Walks l path i ts j → (k : ℕ) → k < length ts
+walk_there : (l : LineData) (path : List Decision) (i : ℕ) (ts : List Constraint) (j : ℕ) → Walks l path i ts j
+    → (k : ℕ) → k < length ts
     → IsConstraint l path (token_at ts k)
 walk_there l path i [] j w k lt = absurd (omega (arith, lt))
 walk_there l path i (t ∷ ts) j w zero lt = w.0
 walk_there l path i (t ∷ ts) j w (suc k) lt = walk_there l path (arc_of l path t).to ts j w.2 k (omega (arith, lt))
 
-walk_tied : (l : LineData) (path : List Decision) (i : ℕ) (t : Constraint) (ts : List Constraint) (j : ℕ) (e : Constraint) → Walks l path i (t ∷ ts) j
+walk_tied : (l : LineData) (path : List Decision) (i : ℕ) (t : Constraint) (ts : List Constraint) (j : ℕ) (e : Constraint)
+    → Walks l path i (t ∷ ts) j
     → j ≡ (arc_of l path e).from
-    → (k : ℕ) → k < length (t ∷ ts) → (arc_of l path (token_at (t ∷ ts) k)).to ≡ (arc_of l path (token_at (ts ++ e ∷ []) k)).from
+    → (k : ℕ) → k < length (t ∷ ts)
+    → (arc_of l path (token_at (t ∷ ts) k)).to ≡ (arc_of l path (token_at (ts ++ e ∷ []) k)).from
 walk_tied l path i t [] j e w last zero lt = w.2 ∙ last
 walk_tied l path i t [] j e w last (suc k) lt = absurd (omega (arith, lt))
 walk_tied l path i t (u ∷ ts) j e w last zero lt = sym w.2.1
 walk_tied l path i t (u ∷ ts) j e w last (suc k) lt = walk_tied l path (arc_of l path t).to u ts j e w.2 last k (omega (arith, lt))
 
-closed_is_sound : (l : LineData) (path : List Decision) (walk : List Constraint) → IsClosedWalk l path walk → IsSound l path (Some walk)
+closed_is_sound : (l : LineData) (path : List Decision) (walk : List Constraint) → IsClosedWalk l path walk
+    → IsSound l path (Some walk)
 closed_is_sound l path [] closed = absurd closed
 closed_is_sound l path (t ∷ ts) closed = record {
   there = walk_there l path (arc_of l path t).from (t ∷ ts) (arc_of l path t).from closed;
@@ -117,17 +124,20 @@ closed_is_sound l path (t ∷ ts) closed = record {
 }
 
 low_sound : (l : LineData) (path : List Decision) (low high : Option (List Constraint))
-    → ((walk : List Constraint) → Contains (option_to_list low ++ option_to_list high) walk → IsClosedWalk l path walk) → IsSound l path low
+    → ((walk : List Constraint) → Contains (option_to_list low ++ option_to_list high) walk → IsClosedWalk l path walk)
+    → IsSound l path low
 low_sound l path None high closed = record { there = λ k lt. absurd (omega (arith, lt)); tied = λ k lt. absurd (omega (arith, lt)) }
 low_sound l path (Some a) high closed = closed_is_sound l path a (closed a (contains_first a (option_to_list high)))
 
 high_sound : (l : LineData) (path : List Decision) (low high : Option (List Constraint))
-    → ((walk : List Constraint) → Contains (option_to_list low ++ option_to_list high) walk → IsClosedWalk l path walk) → IsSound l path high
+    → ((walk : List Constraint) → Contains (option_to_list low ++ option_to_list high) walk → IsClosedWalk l path walk)
+    → IsSound l path high
 high_sound l path low None closed = record { there = λ k lt. absurd (omega (arith, lt)); tied = λ k lt. absurd (omega (arith, lt)) }
 high_sound l path low (Some b) closed = closed_is_sound l path b (closed b (Contains-append_right (option_to_list low) (b ∷ []) b (contains_first b [])))
 
 -- two sound walks have no stray constraint, and no loose one
-pub none_stray : (l : LineData) (path : List Decision) (low high : Option (List Constraint)) → IsSound l path low → IsSound l path high → (j : ℕ)
+pub none_stray : (l : LineData) (path : List Decision) (low high : Option (List Constraint)) → IsSound l path low
+    → IsSound l path high → (j : ℕ)
     → j < length (joined (option_to_list low ++ option_to_list high))
     → IsConstraint l path (token_at (joined (option_to_list low ++ option_to_list high)) j)
 none_stray l path low high a b j lt =
@@ -137,9 +147,11 @@ none_stray l path low high a b j lt =
     (λ above. let k = j - length (words low) in subst P (sym (word_high low high j k (omega (arith, above.0)))) (b.there k above.1))
     (word_cases low high j lt)
 
-pub none_loose : (l : LineData) (path : List Decision) (low high : Option (List Constraint)) → IsSound l path low → IsSound l path high → (j : ℕ)
+pub none_loose : (l : LineData) (path : List Decision) (low high : Option (List Constraint)) → IsSound l path low
+    → IsSound l path high → (j : ℕ)
     → j < length (joined (option_to_list low ++ option_to_list high))
-    → (arc_of l path (token_at (joined (option_to_list low ++ option_to_list high)) j)).to ≡ (arc_of l path (token_at (flat_map followers (option_to_list low ++ option_to_list high)) j)).from
+    → (arc_of l path (token_at (joined (option_to_list low ++ option_to_list high)) j)).to
+    ≡ (arc_of l path (token_at (flat_map followers (option_to_list low ++ option_to_list high)) j)).from
 none_loose l path low high a b j lt =
     let to : Constraint → ℕ = λ t. (arc_of l path t).to in
     let from : Constraint → ℕ = λ t. (arc_of l path t).from in
@@ -178,14 +190,16 @@ walks_or_not (nodes.Stuck m) = inr (λ h. h)
 walks_or_not (nodes.Solved low) = inl tt
 walks_or_not (nodes.Left low) = inl tt
 
-fit_shown : (l : LineData) (path : List Decision) (node : Node) (bound : ℕ) → Shows l path node bound → IsUnfit l path node → ⊥
+fit_shown : (l : LineData) (path : List Decision) (node : Node) (bound : ℕ) → Shows l path node bound
+    → IsUnfit l path node → ⊥
 fit_shown l path (nodes.Split question children) bound shows unfit = unfit shows
 fit_shown l path (nodes.Closed low high) bound shows unfit = unfit
 fit_shown l path (nodes.Stuck m) bound shows unfit = unfit
 fit_shown l path (nodes.Solved low) bound shows unfit = unfit
 fit_shown l path (nodes.Left low) bound shows unfit = unfit
 
-stuck_shown : (l : LineData) (path : List Decision) (node : Node) (bound : ℕ) (m : MoveId) → Shows l path node bound → IsFree l path node m → ⊥
+stuck_shown : (l : LineData) (path : List Decision) (node : Node) (bound : ℕ) (m : MoveId) → Shows l path node bound
+    → IsFree l path node m → ⊥
 stuck_shown l path (nodes.Split question children) bound m shows free = free
 stuck_shown l path (nodes.Closed low high) bound m shows free = free
 stuck_shown l path (nodes.Stuck named) bound m shows free =
@@ -194,7 +208,8 @@ stuck_shown l path (nodes.Stuck named) bound m shows free =
 stuck_shown l path (nodes.Solved low) bound m shows free = free
 stuck_shown l path (nodes.Left low) bound m shows free = free
 
-stray_shown : (l : LineData) (path : List Decision) (node : Node) (bound j : ℕ) → Shows l path node bound → IsStray l path node j → ⊥
+stray_shown : (l : LineData) (path : List Decision) (node : Node) (bound j : ℕ) → Shows l path node bound
+    → IsStray l path node j → ⊥
 stray_shown l path node bound j shows stray =
     ⊎_elim
     (λ w.
@@ -204,7 +219,8 @@ stray_shown l path node bound j shows stray =
     (λ none. no_words node j none stray.0)
     (walks_or_not node)
 
-loose_shown : (l : LineData) (path : List Decision) (node : Node) (bound j : ℕ) → Shows l path node bound → IsLoose l path node j → ⊥
+loose_shown : (l : LineData) (path : List Decision) (node : Node) (bound j : ℕ) → Shows l path node bound
+    → IsLoose l path node j → ⊥
 loose_shown l path node bound j shows loose =
     ⊎_elim
     (λ w.
@@ -214,7 +230,8 @@ loose_shown l path node bound j shows loose =
     (λ none. no_words node j none loose.0)
     (walks_or_not node)
 
-pub no_flaw_shown : (l : LineData) (path : List Decision) (node : Node) (bound : ℕ) (r : Reason) → Shows l path node bound → HasFlaw l path node bound r → ⊥
+pub no_flaw_shown : (l : LineData) (path : List Decision) (node : Node) (bound : ℕ) (r : Reason)
+    → Shows l path node bound → HasFlaw l path node bound r → ⊥
 no_flaw_shown l path node bound reasons.TimetableMissing shows flaw = flaw
 no_flaw_shown l path node bound reasons.TimetableExtra shows flaw = flaw
 no_flaw_shown l path node bound (reasons.Bound seen want) shows flaw = flaw

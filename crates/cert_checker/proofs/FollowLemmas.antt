@@ -25,14 +25,16 @@ use Rattle.cert_checker.specs.Followed.{IsTied, IsFirstLoose}
 abbrev pub FirstFail : (ℕ → Type 0) → ℕ → Option ℕ → Type 0
 FirstFail T n answer = MatchOption answer ((k : ℕ) → k < n → T k) (λ j. (j < n) × (T j → ⊥) × ((k : ℕ) → k < j → T k))
 
-test_cases : (m n : ℕ) (P : Option ℕ → Type 0) (place : ℕ) → (m ≡ n → P None) → ((m ≡ n → ⊥) → P (Some place)) → P (if m == n then None else Some place)
+test_cases : (m n : ℕ) (P : Option ℕ → Type 0) (place : ℕ) → (m ≡ n → P None) → ((m ≡ n → ⊥) → P (Some place))
+    → P (if m == n then None else Some place)
 test_cases m n P place same differ = by_test (m == n) refl
   where
     by_test : (b : Bool) → (m == n) ≡ b → P (if b then None else Some place)
     by_test true e = same (eqb-true m n e)
     by_test false e = differ (λ here. false≢true (sym e ∙ eq-eqb m n here))
 
-pub fail_more : (T : ℕ → Type 0) (n m : ℕ) (o : Option ℕ) (end begin : ℕ) → m ≡ n + 1 → (end ≡ begin → T n) → (T n → end ≡ begin) → FirstFail T n o
+pub fail_more : (T : ℕ → Type 0) (n m : ℕ) (o : Option ℕ) (end begin : ℕ) → m ≡ n + 1 → (end ≡ begin → T n)
+    → (T n → end ≡ begin) → FirstFail T n o
     → FirstFail T m (option_or o (if end == begin then None else Some n))
 fail_more T n m (Some j) end begin next ties breaks (lt, bad, good) = (omega (arith, lt, next), bad, good)
 fail_more T n m None end begin next ties breaks all =
@@ -42,13 +44,15 @@ fail_more T n m None end begin next ties breaks all =
 
 -- ---- the next constraint of a walk
 
-pub next_inside : (xs : List Constraint) (k : ℕ) (d : Constraint) → k + 1 < length xs → get_or (followers xs) k d ≡ get_or xs (k + 1) d
+pub next_inside : (xs : List Constraint) (k : ℕ) (d : Constraint) → k + 1 < length xs
+    → get_or (followers xs) k d ≡ get_or xs (k + 1) d
 next_inside [] k d lt = absurd (omega (arith, lt))
 next_inside (t ∷ ts) k d lt =
     let e : k + 1 ≡ suc k = omega arith in
     get_or_append_left ts (t ∷ []) d k (omega (arith, lt)) ∙ sym (ap (λ (n : ℕ). get_or (t ∷ ts) n d) e)
 
-pub next_around : (xs : List Constraint) (k : ℕ) (d : Constraint) → k + 1 ≡ length xs → get_or (followers xs) k d ≡ get_or xs 0 d
+pub next_around : (xs : List Constraint) (k : ℕ) (d : Constraint) → k + 1 ≡ length xs
+    → get_or (followers xs) k d ≡ get_or xs 0 d
 next_around [] k d e = absurd (omega (arith, e))
 next_around (t ∷ ts) k d e =
     let at : k ≡ length ts = omega (arith, e) in
@@ -68,7 +72,8 @@ sum_q-push l path (x ∷ ts) t = omega (arith, ints, sum_q-push l path ts t)
 
 -- ---- the first constraints of a walk
 
--- the first j constraints are on the path: where the last of them ends, their sums, and the first that isn't tied to the next
+-- the first j constraints are on the path: where the last of them ends, their sums, and the first that isn't tied to
+-- the next
 pub record Along (l : LineData) (path : List Decision) (xs : List Constraint) (j end : ℕ) (w q : ℤ) (loose : Option ℕ) : Type 0 where
   pub there : (k : ℕ) → k < j → IsConstraint l path (token_at xs k)
   pub ends : end ≡ (arc_of l path (token_at xs (j - 1))).to
@@ -78,7 +83,8 @@ pub record Along (l : LineData) (path : List Decision) (xs : List Constraint) (j
   pub small_q : unsigned_abs q ≤ j * 1000000000
   pub fails : FirstFail (IsTied l path xs) (j - 1) loose
 
-pub along_start : (l : LineData) (path : List Decision) (xs : List Constraint) (n : ℕ) (a : Arc) (w q : ℤ) → 1 ≤ length xs → IsConstraint l path (token_at xs 0)
+pub along_start : (l : LineData) (path : List Decision) (xs : List Constraint) (n : ℕ) (a : Arc) (w q : ℤ)
+    → 1 ≤ length xs → IsConstraint l path (token_at xs 0)
     → a ≡ arc_of l path (token_at xs 0) → IsArc n a → w ≡ a.w → q ≡ a.q → Along l path xs 1 a.to w q None
 along_start l path [] n a w q some here at small w_is q_is = absurd (omega (arith, some))
 along_start l path (x ∷ xs) n a w q some here at small w_is q_is =
@@ -94,14 +100,17 @@ along_start l path (x ∷ xs) n a w q some here at small w_is q_is =
       fails = λ k lt. absurd (omega (arith, lt));
     }
   where
-    first : (x : Constraint) (xs : List Constraint) → IsConstraint l path x → (k : ℕ) → k < 1 → IsConstraint l path (token_at (x ∷ xs) k)
+    first : (x : Constraint) (xs : List Constraint) → IsConstraint l path x → (k : ℕ) → k < 1
+        → IsConstraint l path (token_at (x ∷ xs) k)
     first x xs h zero lt = h
     first x xs h (suc k) lt = absurd (omega (arith, lt))
 
 pub along_more : (l : LineData) (path : List Decision) (xs : List Constraint) (j end : ℕ) (w q : ℤ) (loose : Option ℕ) (n : ℕ) (a : Arc) (w' q' : ℤ)
     (loose' : Option ℕ)
-    → 1 ≤ j → j < length xs → Along l path xs j end w q loose → IsConstraint l path (token_at xs j) → a ≡ arc_of l path (token_at xs j) → IsArc n a
-    → w' ≡ w +ℤ a.w → q' ≡ q +ℤ a.q → loose' ≡ option_or loose (if end == a.from then None else Some (j - 1)) → Along l path xs (j + 1) a.to w' q' loose'
+    → 1 ≤ j → j < length xs → Along l path xs j end w q loose → IsConstraint l path (token_at xs j)
+    → a ≡ arc_of l path (token_at xs j) → IsArc n a
+    → w' ≡ w +ℤ a.w → q' ≡ q +ℤ a.q → loose' ≡ option_or loose (if end == a.from then None else Some (j - 1))
+    → Along l path xs (j + 1) a.to w' q' loose'
 along_more l path xs j end w q loose n a w' q' loose' some lt along here at small w_is q_is loose_is =
     let w_at : a.w ≡ (arc_of l path (token_at xs j)).w = ap (λ (b : Arc). b.w) at in
     let q_at : a.q ≡ (arc_of l path (token_at xs j)).q = ap (λ (b : Arc). b.q) at in
@@ -136,7 +145,8 @@ along_more l path xs j end w q loose n a w' q' loose' some lt along here at smal
 -- the last constraint, which is to end where the first begins
 pub along_all : (l : LineData) (path : List Decision) (xs : List Constraint) (j end : ℕ) (w q : ℤ) (loose : Option ℕ) (begin place : ℕ) (loose' : Option ℕ)
     → 1 ≤ length xs → j ≡ length xs → Along l path xs j end w q loose
-    → begin ≡ (arc_of l path (token_at xs 0)).from → place ≡ j - 1 → loose' ≡ option_or loose (if end == begin then None else Some place)
+    → begin ≡ (arc_of l path (token_at xs 0)).from → place ≡ j - 1
+    → loose' ≡ option_or loose (if end == begin then None else Some place)
     → IsFirstLoose l path xs loose'
 along_all l path xs j end w q loose begin place loose' some all along first at loose_is =
     let next : token_at (followers xs) (j - 1) ≡ token_at xs 0 = next_around xs (j - 1) (Min 0 0) (omega (arith, some, all)) in
@@ -148,13 +158,15 @@ along_all l path xs j end w q loose begin place loose' some all along first at l
     (fail_more (IsTied l path xs) (j - 1) (length xs) loose end begin f (λ same. sym along.ends ∙ same ∙ sym from)
     (λ tied. along.ends ∙ tied ∙ from) along.fails))
 
-pub whole_sums : (l : LineData) (path : List Decision) (xs : List Constraint) (j end : ℕ) (w q : ℤ) (loose : Option ℕ) → j ≡ length xs
+pub whole_sums : (l : LineData) (path : List Decision) (xs : List Constraint) (j end : ℕ) (w q : ℤ) (loose : Option ℕ)
+    → j ≡ length xs
     → Along l path xs j end w q loose → (w ≡ sum_w l path xs) × (q ≡ sum_q l path xs)
 whole_sums l path xs j end w q loose all along =
     let e : take j xs ≡ xs = take_all j xs (omega (arith, all)) in
     (along.is_w ∙ ap (λ (ts : List Constraint). sum_w l path ts) e, along.is_q ∙ ap (λ (ts : List Constraint). sum_q l path ts) e)
 
-pub sums_are : (l : LineData) (path : List Decision) (xs : List Constraint) (w q : ℤ) → w ≡ sum_w l path xs → q ≡ sum_q l path xs
+pub sums_are : (l : LineData) (path : List Decision) (xs : List Constraint) (w q : ℤ) → w ≡ sum_w l path xs
+    → q ≡ sum_q l path xs
     → (let s : Sums = record { w = w; q = q } in s ≡ sums_of l path xs)
 sums_are l path xs w q e f =
     let make : ℤ → ℤ → Sums = λ x y. record { w = x; q = y } in

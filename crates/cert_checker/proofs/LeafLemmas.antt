@@ -29,7 +29,8 @@ use Rattle.cert_checker.proofs.FlawLemmas.{words, words_are, word_cases, word_lo
 
 -- ---- the first of some numbers that fails
 
-fail_map : (T S : ℕ → Type 0) (n : ℕ) (o : Option ℕ) → ((k : ℕ) → k < n → T k → S k) → ((k : ℕ) → k < n → S k → T k) → FirstFail T n o → FirstFail S n o
+fail_map : (T S : ℕ → Type 0) (n : ℕ) (o : Option ℕ) → ((k : ℕ) → k < n → T k → S k) → ((k : ℕ) → k < n → S k → T k)
+    → FirstFail T n o → FirstFail S n o
 fail_map T S n None to from all = λ k lt. to k lt (all k lt)
 fail_map T S n (Some j) to from (lt, bad, good) = (lt, λ s. bad (from j lt s), λ k below. to k (omega (arith, below, lt)) (good k below))
 
@@ -51,28 +52,32 @@ fail-append T m n None None first second = λ k below.
 
 -- ---- what following tells of a walk that may be there
 
-followed_there : (l : LineData) (path : List Decision) (o : Option (List Constraint)) (f : Option Followed) → IsFollowedOr l path o f → (k : ℕ)
+followed_there : (l : LineData) (path : List Decision) (o : Option (List Constraint)) (f : Option Followed)
+    → IsFollowedOr l path o f → (k : ℕ)
     → k < length (words o) → IsConstraint l path (token_at (words o) k)
 followed_there l path None None h k lt = absurd (omega (arith, lt))
 followed_there l path None (Some f) h k lt = absurd h
 followed_there l path (Some walk) None h k lt = absurd h
 followed_there l path (Some walk) (Some f) h k lt = h.there k lt
 
-followed_count : (l : LineData) (path : List Decision) (o : Option (List Constraint)) (f : Option Followed) → IsFollowedOr l path o f
+followed_count : (l : LineData) (path : List Decision) (o : Option (List Constraint)) (f : Option Followed)
+    → IsFollowedOr l path o f
     → count_of f ≡ length (words o)
 followed_count l path None None h = refl
 followed_count l path None (Some f) h = absurd h
 followed_count l path (Some walk) None h = absurd h
 followed_count l path (Some walk) (Some f) h = h.count
 
-followed_fail : (l : LineData) (path : List Decision) (o : Option (List Constraint)) (f : Option Followed) → IsFollowedOr l path o f
+followed_fail : (l : LineData) (path : List Decision) (o : Option (List Constraint)) (f : Option Followed)
+    → IsFollowedOr l path o f
     → FirstFail (IsTiedIn l path o) (length (words o)) (own_loose f)
 followed_fail l path None None h = λ k lt. absurd (omega (arith, lt))
 followed_fail l path None (Some f) h = absurd h
 followed_fail l path (Some walk) None h = absurd h
 followed_fail l path (Some walk) (Some f) h = h.loose
 
-followed_sums : (l : LineData) (path : List Decision) (o : Option (List Constraint)) (f : Option Followed) → IsFollowedOr l path o f
+followed_sums : (l : LineData) (path : List Decision) (o : Option (List Constraint)) (f : Option Followed)
+    → IsFollowedOr l path o f
     → sums_in f ≡ option_map (sums_of l path) o
 followed_sums l path None None h = refl
 followed_sums l path None (Some f) h = absurd h
@@ -83,7 +88,8 @@ if_small : (o : Option ℕ) (T : ℕ → Type 0) (n : ℕ) → n ≤ 1000 → Fi
 if_small None T n few fail = tt
 if_small (Some j) T n few fail = omega (arith, fail.0, few)
 
-pub followed_usable : (l : LineData) (path : List Decision) (o : Option (List Constraint)) (f : Option Followed) → IsFollowedOr l path o f → AreUsable f
+pub followed_usable : (l : LineData) (path : List Decision) (o : Option (List Constraint)) (f : Option Followed)
+    → IsFollowedOr l path o f → AreUsable f
 followed_usable l path None None h = record { count = omega arith; loose = tt; sums = tt }
 followed_usable l path None (Some f) h = absurd h
 followed_usable l path (Some walk) None h = absurd h
@@ -106,11 +112,13 @@ walks_to l path t (u ∷ ts) e there tied =
     (there 0 (omega arith), refl, subst P (sym (tied 0 (omega arith))) rest)
 
 sound_is_closed : (l : LineData) (path : List Decision) (walk : List Constraint) → 1 ≤ length walk
-    → ((k : ℕ) → k < length walk → IsConstraint l path (token_at walk k)) → ((k : ℕ) → k < length walk → IsTied l path walk k) → IsClosedWalk l path walk
+    → ((k : ℕ) → k < length walk → IsConstraint l path (token_at walk k))
+    → ((k : ℕ) → k < length walk → IsTied l path walk k) → IsClosedWalk l path walk
 sound_is_closed l path [] some there tied = absurd (omega (arith, some))
 sound_is_closed l path (t ∷ ts) some there tied = walks_to l path t ts t there tied
 
-followed_closed : (l : LineData) (path : List Decision) (o : Option (List Constraint)) (f : Option Followed) → IsFollowedOr l path o f → own_loose f ≡ None
+followed_closed : (l : LineData) (path : List Decision) (o : Option (List Constraint)) (f : Option Followed)
+    → IsFollowedOr l path o f → own_loose f ≡ None
     → (walk : List Constraint) → Contains (option_to_list o) walk → IsClosedWalk l path walk
 followed_closed l path None None h none walk c = absurd (omega (arith, c.1))
 followed_closed l path None (Some f) h none walk c = absurd h
@@ -122,7 +130,8 @@ followed_closed l path (Some w) (Some f) h none walk c =
 
 -- ---- periods
 
-given_walk : (l : LineData) (path : List Decision) (o : Option (List Constraint)) (f : Option Followed) (t : ℕ) → IsFollowedOr l path o f → Gives (sums_in f) t
+given_walk : (l : LineData) (path : List Decision) (o : Option (List Constraint)) (f : Option Followed) (t : ℕ)
+    → IsFollowedOr l path o f → Gives (sums_in f) t
     → (walk : List Constraint) × Contains (option_to_list o) walk × RefutesPeriod l path t walk
 given_walk l path None None t h g = absurd g
 given_walk l path None (Some f) t h g = absurd h
@@ -131,8 +140,10 @@ given_walk l path (Some w) (Some f) t h g =
     let P : Sums → Type 0 = λ s. Gives (Some s) t in
     (w, contains_first w [], subst P h.sums g)
 
-ungiven_walk : (l : LineData) (path : List Decision) (o : Option (List Constraint)) (f : Option Followed) (t : ℕ) → IsFollowedOr l path o f
-    → (Gives (sums_in f) t → ⊥) → (walk : List Constraint) → Contains (option_to_list o) walk → RefutesPeriod l path t walk → ⊥
+ungiven_walk : (l : LineData) (path : List Decision) (o : Option (List Constraint)) (f : Option Followed) (t : ℕ)
+    → IsFollowedOr l path o f
+    → (Gives (sums_in f) t → ⊥) → (walk : List Constraint) → Contains (option_to_list o) walk
+    → RefutesPeriod l path t walk → ⊥
 ungiven_walk l path None None t h shut walk c refutes = omega (arith, c.1)
 ungiven_walk l path None (Some f) t h shut walk c refutes = h
 ungiven_walk l path (Some w) None t h shut walk c refutes = h
@@ -141,7 +152,8 @@ ungiven_walk l path (Some w) (Some f) t h shut walk c refutes =
     let R : List Constraint → Type 0 = λ x. RefutesPeriod l path t x in
     shut (subst P (sym h.sums) (subst R (sym (contains_only w walk c)) refutes))
 
-either_walk : (l : LineData) (path : List Decision) (a b : Option (List Constraint)) (f g : Option Followed) (t : ℕ) → IsFollowedOr l path a f
+either_walk : (l : LineData) (path : List Decision) (a b : Option (List Constraint)) (f g : Option Followed) (t : ℕ)
+    → IsFollowedOr l path a f
     → IsFollowedOr l path b g → Gives (sums_in f) t ⊎ Gives (sums_in g) t
     → (walk : List Constraint) × Contains (option_to_list a ++ option_to_list b) walk × RefutesPeriod l path t walk
 either_walk l path a b f g t h k given =
@@ -150,7 +162,8 @@ either_walk l path a b f g t h k given =
     (λ high. let r = given_walk l path b g t k high in (r.0, Contains-append_right (option_to_list a) (option_to_list b) r.0 r.1, r.2))
     given
 
-neither_walk : (l : LineData) (path : List Decision) (a b : Option (List Constraint)) (f g : Option Followed) (t : ℕ) → IsFollowedOr l path a f
+neither_walk : (l : LineData) (path : List Decision) (a b : Option (List Constraint)) (f g : Option Followed) (t : ℕ)
+    → IsFollowedOr l path a f
     → IsFollowedOr l path b g → (Gives (sums_in f) t → ⊥) → (Gives (sums_in g) t → ⊥)
     → (walk : List Constraint) → Contains (option_to_list a ++ option_to_list b) walk → RefutesPeriod l path t walk → ⊥
 neither_walk l path a b f g t h k low high walk c refutes =
@@ -166,7 +179,8 @@ leaf_fits l path (nodes.Stuck m) w unfit = unfit
 leaf_fits l path (nodes.Solved low) w unfit = unfit
 leaf_fits l path (nodes.Left low) w unfit = unfit
 
-leaf_not_stuck : (l : LineData) (path : List Decision) (leaf : Node) (m : MoveId) → HasWalks leaf → IsFree l path leaf m → ⊥
+leaf_not_stuck : (l : LineData) (path : List Decision) (leaf : Node) (m : MoveId) → HasWalks leaf → IsFree l path leaf m
+    → ⊥
 leaf_not_stuck l path (nodes.Split question children) m w free = free
 leaf_not_stuck l path (nodes.Closed low high) m w free = free
 leaf_not_stuck l path (nodes.Stuck named) m w free = w
@@ -174,7 +188,8 @@ leaf_not_stuck l path (nodes.Solved low) m w free = free
 leaf_not_stuck l path (nodes.Left low) m w free = free
 
 none_earlier : (l : LineData) (path : List Decision) (leaf : Node) (bound : ℕ) (limit : List ℤ) → HasWalks leaf
-    → ((j : ℕ) → IsStray l path leaf j → IsLess (pos 2 ∷ pos j ∷ []) limit → ⊥) → ((j : ℕ) → IsLoose l path leaf j → IsLess (pos 3 ∷ pos j ∷ []) limit → ⊥)
+    → ((j : ℕ) → IsStray l path leaf j → IsLess (pos 2 ∷ pos j ∷ []) limit → ⊥)
+    → ((j : ℕ) → IsLoose l path leaf j → IsLess (pos 3 ∷ pos j ∷ []) limit → ⊥)
     → (IsLess (pos 4 ∷ []) limit → ⊥) → (s : Reason) → HasFlaw l path leaf bound s → IsLess (rank_of s) limit → ⊥
 none_earlier l path leaf bound limit w stray loose period reasons.TimetableMissing flaw less = flaw
 none_earlier l path leaf bound limit w stray loose period reasons.TimetableExtra flaw less = flaw
@@ -191,8 +206,10 @@ none_earlier l path leaf bound limit w stray loose period (reasons.Period n p a 
 
 -- ---- constraints off the path
 
-first_token : (l : LineData) (path : List Decision) (leaf : Node) (bound n j : ℕ) → HasWalks leaf → IsStray l path leaf j
-    → ((k : ℕ) → k < j → IsConstraint l path (token_at (tokens_of leaf) k)) → IsFirstFlaw l path leaf bound n (reasons.Token n j)
+first_token : (l : LineData) (path : List Decision) (leaf : Node) (bound n j : ℕ) → HasWalks leaf
+    → IsStray l path leaf j
+    → ((k : ℕ) → k < j → IsConstraint l path (token_at (tokens_of leaf) k))
+    → IsFirstFlaw l path leaf bound n (reasons.Token n j)
 first_token l path leaf bound n j w stray before = record {
   has = stray;
   names = refl;
@@ -203,11 +220,14 @@ first_token l path leaf bound n j w stray before = record {
       (λ less. ⊎_elim (λ lt. omega (arith, ints, lt)) (λ same. omega (arith, ints, same.0)) less);
 }
 
-low_size : (a b : Option (List Constraint)) (j : ℕ) → j < length (words a) → j < length (joined (option_to_list a ++ option_to_list b))
+low_size : (a b : Option (List Constraint)) (j : ℕ) → j < length (words a)
+    → j < length (joined (option_to_list a ++ option_to_list b))
 low_size a b j lt = omega (arith, lt, ap (λ (xs : List Constraint). length xs) (words_are a b), length-append (words a) (words b))
 
-stray_low : (l : LineData) (path : List Decision) (a b : Option (List Constraint)) (leaf : Node) (bound n j : ℕ) → a ≡ low_of leaf → b ≡ high_of leaf
-    → HasWalks leaf → (j < length (words a)) → (IsConstraint l path (token_at (words a) j) → ⊥) → ((k : ℕ) → k < j → IsConstraint l path (token_at (words a) k))
+stray_low : (l : LineData) (path : List Decision) (a b : Option (List Constraint)) (leaf : Node) (bound n j : ℕ)
+    → a ≡ low_of leaf → b ≡ high_of leaf
+    → HasWalks leaf → (j < length (words a)) → (IsConstraint l path (token_at (words a) j) → ⊥)
+    → ((k : ℕ) → k < j → IsConstraint l path (token_at (words a) k))
     → IsFirstFlaw l path leaf bound n (reasons.Token n j)
 stray_low l path a b leaf bound n j is_a is_b w lt off before =
     let P : Constraint → Type 0 = λ t. IsConstraint l path t in
@@ -218,11 +238,13 @@ stray_low l path a b leaf bound n j is_a is_b w lt off before =
     (omega (arith, low_size a b j lt, ap (λ (xs : List Constraint). length xs) e), λ h. off (subst P (sym (at j) ∙ word_low a b j lt) h))
     (λ k below. subst P (sym (word_low a b k (omega (arith, below, lt))) ∙ at k) (before k below))
 
-pub token_low : (l : LineData) (path : List Decision) (leaf : Node) (bound n j : ℕ) → HasWalks leaf → IsFirstStrayOr l path (low_of leaf) j
+pub token_low : (l : LineData) (path : List Decision) (leaf : Node) (bound n j : ℕ) → HasWalks leaf
+    → IsFirstStrayOr l path (low_of leaf) j
     → IsFirstFlaw l path leaf bound n (reasons.Token n j)
 token_low l path leaf bound n j w stray = by_low (low_of leaf) refl stray
   where
-    by_low : (a : Option (List Constraint)) → a ≡ low_of leaf → IsFirstStrayOr l path a j → IsFirstFlaw l path leaf bound n (reasons.Token n j)
+    by_low : (a : Option (List Constraint)) → a ≡ low_of leaf → IsFirstStrayOr l path a j
+        → IsFirstFlaw l path leaf bound n (reasons.Token n j)
     by_low None e h = absurd h
     by_low (Some walk) e h = stray_low l path (Some walk) (high_of leaf) leaf bound n j e refl w h.0 h.1 h.2
 
@@ -231,8 +253,10 @@ high_stray : (l : LineData) (path : List Decision) (b : Option (List Constraint)
 high_stray l path None j h = absurd h
 high_stray l path (Some walk) j h = h
 
-pub token_high : (l : LineData) (path : List Decision) (leaf : Node) (f : Option Followed) (bound n j p : ℕ) → HasWalks leaf
-    → IsFollowedOr l path (low_of leaf) f → IsFirstStrayOr l path (high_of leaf) j → p ≡ count_of f + j → IsFirstFlaw l path leaf bound n (reasons.Token n p)
+pub token_high : (l : LineData) (path : List Decision) (leaf : Node) (f : Option Followed) (bound n j p : ℕ)
+    → HasWalks leaf
+    → IsFollowedOr l path (low_of leaf) f → IsFirstStrayOr l path (high_of leaf) j → p ≡ count_of f + j
+    → IsFirstFlaw l path leaf bound n (reasons.Token n p)
 token_high l path leaf f bound n j p w followed stray at =
     let a = low_of leaf in
     let b = high_of leaf in
@@ -265,7 +289,8 @@ record Both (l : LineData) (path : List Decision) (leaf : Node) (f g : Option Fo
 abbrev IsTiedAt : LineData → List Decision → Node → ℕ → Type 0
 IsTiedAt l path leaf j = (arc_of l path (token_at (tokens_of leaf) j)).to ≡ (arc_of l path (token_at (followers_of leaf) j)).from
 
-all_there : (l : LineData) (path : List Decision) (leaf : Node) (f g : Option Followed) → Both l path leaf f g → (j : ℕ) → j < length (tokens_of leaf)
+all_there : (l : LineData) (path : List Decision) (leaf : Node) (f g : Option Followed) → Both l path leaf f g → (j : ℕ)
+    → j < length (tokens_of leaf)
     → IsConstraint l path (token_at (tokens_of leaf) j)
 all_there l path leaf f g both j lt =
     let a = low_of leaf in
@@ -303,7 +328,8 @@ first_fails l path leaf f g both =
     let S : ℕ → Type 0 = λ k. FirstFail (IsTiedAt l path leaf) k (first_loose f g) in
     subst S size (fail-append (IsTiedAt l path leaf) m (length (words b)) (own_loose f) (own_loose g) (subst L (sym count) low_fail) high_fail)
 
-judged_joint : (l : LineData) (path : List Decision) (leaf : Node) (f g : Option Followed) (bound n j : ℕ) → first_loose f g ≡ Some j → Both l path leaf f g
+judged_joint : (l : LineData) (path : List Decision) (leaf : Node) (f g : Option Followed) (bound n j : ℕ)
+    → first_loose f g ≡ Some j → Both l path leaf f g
     → IsFirstFlaw l path leaf bound n (reasons.Joint n j)
 judged_joint l path leaf f g bound n j is both =
     let F : Option ℕ → Type 0 = λ o. FirstFail (IsTiedAt l path leaf) (length (tokens_of leaf)) o in
@@ -319,7 +345,8 @@ judged_joint l path leaf f g bound n j is both =
           (λ less. ⊎_elim (λ lt. omega (arith, ints, lt)) (λ same. omega (arith, ints, same.0)) less);
     }
 
-pub judge_joint : (f g : Option Followed) (bound n j : ℕ) → first_loose f g ≡ Some j → IsJudged f g bound n (Some (reasons.Joint n j))
+pub judge_joint : (f g : Option Followed) (bound n j : ℕ) → first_loose f g ≡ Some j
+    → IsJudged f g bound n (Some (reasons.Joint n j))
 judge_joint f g bound n j is = λ l path leaf w low high. judged_joint l path leaf f g bound n j is (record { walks = w; low = low; high = high })
 
 none_both : (o p : Option ℕ) (m : ℕ) → option_or o (option_map (λ (j : ℕ). m + j) p) ≡ None → (o ≡ None) × (p ≡ None)
@@ -327,7 +354,8 @@ none_both None None m e = (refl, refl)
 none_both None (Some j) m e = cc
 none_both (Some j) p m e = cc
 
-shows_leaf : (l : LineData) (path : List Decision) (leaf : Node) (bound : ℕ) → HasWalks leaf → RefuteBelow l path (walks_of leaf) bound
+shows_leaf : (l : LineData) (path : List Decision) (leaf : Node) (bound : ℕ) → HasWalks leaf
+    → RefuteBelow l path (walks_of leaf) bound
     → Shows l path leaf bound
 shows_leaf l path (nodes.Split question children) bound w refute = absurd w
 shows_leaf l path (nodes.Closed low high) bound w refute = refute
@@ -337,7 +365,8 @@ shows_leaf l path (nodes.Left low) bound w refute =
     let P : List (List Constraint) → Type 0 = λ ws. RefuteBelow l path ws bound in
     subst P (append-nil (option_to_list low)) refute
 
-judged_shows : (l : LineData) (path : List Decision) (leaf : Node) (f g : Option Followed) (bound : ℕ) → first_loose f g ≡ None
+judged_shows : (l : LineData) (path : List Decision) (leaf : Node) (f g : Option Followed) (bound : ℕ)
+    → first_loose f g ≡ None
     → AllGiven (sums_in f) (sums_in g) bound → Both l path leaf f g → Shows l path leaf bound
 judged_shows l path leaf f g bound is given both =
     let a = low_of leaf in
@@ -351,10 +380,12 @@ judged_shows l path leaf f g bound is given both =
     } in
     shows_leaf l path leaf bound both.walks refute
 
-pub judge_shows : (f g : Option Followed) (bound n : ℕ) → first_loose f g ≡ None → IsLeastUngiven (sums_in f) (sums_in g) bound None → IsJudged f g bound n None
+pub judge_shows : (f g : Option Followed) (bound n : ℕ) → first_loose f g ≡ None
+    → IsLeastUngiven (sums_in f) (sums_in g) bound None → IsJudged f g bound n None
 judge_shows f g bound n is given = λ l path leaf w low high. judged_shows l path leaf f g bound is given (record { walks = w; low = low; high = high })
 
-judged_open : (l : LineData) (path : List Decision) (leaf : Node) (f g : Option Followed) (bound n p : ℕ) → first_loose f g ≡ None
+judged_open : (l : LineData) (path : List Decision) (leaf : Node) (f g : Option Followed) (bound n p : ℕ)
+    → first_loose f g ≡ None
     → IsLeastUngiven (sums_in f) (sums_in g) bound (Some p) → Both l path leaf f g
     → IsFirstFlaw l path leaf bound n (reasons.Period n p (sums_in f) (sums_in g))
 judged_open l path leaf f g bound n p is (some, lt, low, high, before) both =
@@ -378,6 +409,7 @@ judged_open l path leaf f g bound n p is (some, lt, low, high, before) both =
           (λ less. ⊎_elim (λ lt. omega (arith, ints, lt)) (λ same. same.1) less);
     }
 
-pub judge_open : (f g : Option Followed) (bound n p : ℕ) → first_loose f g ≡ None → IsLeastUngiven (sums_in f) (sums_in g) bound (Some p)
+pub judge_open : (f g : Option Followed) (bound n p : ℕ) → first_loose f g ≡ None
+    → IsLeastUngiven (sums_in f) (sums_in g) bound (Some p)
     → IsJudged f g bound n (Some (reasons.Period n p (sums_in f) (sums_in g)))
 judge_open f g bound n p is least = λ l path leaf w low high. judged_open l path leaf f g bound n p is least (record { walks = w; low = low; high = high })

@@ -25,15 +25,16 @@ use Rattle.cert_checker.specs.Passed.{PassedLeaf, leaf_of, IsWithin}
 use Rattle.cert_checker.specs.Trying.{IsPassed, passed_with, passed_at, LeafShows, IsLeafAnswer, IsFirstAmong, IsAnswerOf, AreTried}
 use Rattle.cert_checker.proofs.TreeLemmas.{IsOnWay, IsPushed, AreShown, stands_here, flawed_here, shown_more, way_ends}
 
--- the leaves among the nodes before number n that are still to be tried: where those before one of them show what they are
--- to show, so does every node before it, and where they all do, every node before number n
+-- the leaves among the nodes before number n that are still to be tried: where those before one of them show what they
+-- are to show, so does every node before it, and where they all do, every node before number n
 pub record AreKept (l : LineData) (nodes : List Node) (bound n : ℕ) (leaves : List PassedLeaf) : Type 0 where
   pub each : All (IsPassed l nodes) leaves
   pub covered : (k : ℕ) (d : PassedLeaf) → k < length leaves → All (LeafShows l nodes bound) (take k leaves)
       → AreShown l nodes bound (get_or leaves k d).number
   pub shown : All (LeafShows l nodes bound) leaves → AreShown l nodes bound n
 
-pub kept_none : (l : LineData) (nodes : List Node) (bound n : ℕ) (leaves : List PassedLeaf) → leaves ≡ [] → AreShown l nodes bound n
+pub kept_none : (l : LineData) (nodes : List Node) (bound n : ℕ) (leaves : List PassedLeaf) → leaves ≡ []
+    → AreShown l nodes bound n
     → AreKept l nodes bound n leaves
 kept_none l nodes bound n leaves none shown =
     let P : List PassedLeaf → Type 0 = λ xs. AreKept l nodes bound n xs in
@@ -43,11 +44,13 @@ kept_none l nodes bound n leaves none shown =
       shown = λ all. shown;
     })
 
-pub kept_first : (l : LineData) (nodes : List Node) (bound : ℕ) (leaves : List PassedLeaf) → leaves ≡ [] → AreKept l nodes bound 0 leaves
+pub kept_first : (l : LineData) (nodes : List Node) (bound : ℕ) (leaves : List PassedLeaf) → leaves ≡ []
+    → AreKept l nodes bound 0 leaves
 kept_first l nodes bound leaves none = kept_none l nodes bound 0 leaves none (λ m i p lt stands. absurd (omega (arith, lt)))
 
 -- one more leaf is kept
-kept_more : (l : LineData) (nodes : List Node) (bound n at : ℕ) (path : List Decision) (waiting : List Waiting) (leaves : List PassedLeaf) → IsTree nodes
+kept_more : (l : LineData) (nodes : List Node) (bound n at : ℕ) (path : List Decision) (waiting : List Waiting) (leaves : List PassedLeaf)
+    → IsTree nodes
     → IsOnWay l nodes n at path waiting → AreKept l nodes bound n leaves
     → AreKept l nodes bound (n + 1) (leaves ++ (let x : PassedLeaf = record { number = n; node = at; path = path } in x) ∷ [])
 kept_more l nodes bound n at path waiting leaves tree way kept =
@@ -76,8 +79,10 @@ kept_more l nodes bound n at path waiting leaves tree way kept =
     }
 
 -- a split that shows what it is to show is passed
-kept_split : (l : LineData) (nodes : List Node) (bound n at : ℕ) (path : List Decision) (waiting : List Waiting) (leaves : List PassedLeaf) → IsTree nodes
-    → IsOnWay l nodes n at path waiting → AreKept l nodes bound n leaves → Shows l path (node_at nodes at) bound → AreKept l nodes bound (n + 1) leaves
+kept_split : (l : LineData) (nodes : List Node) (bound n at : ℕ) (path : List Decision) (waiting : List Waiting) (leaves : List PassedLeaf)
+    → IsTree nodes
+    → IsOnWay l nodes n at path waiting → AreKept l nodes bound n leaves → Shows l path (node_at nodes at) bound
+    → AreKept l nodes bound (n + 1) leaves
 kept_split l nodes bound n at path waiting leaves tree way kept shows = record {
   each = kept.each;
   covered = kept.covered;
@@ -85,7 +90,8 @@ kept_split l nodes bound n at path waiting leaves tree way kept shows = record {
 }
 
 kept_with : (l : LineData) (nodes : List Node) (bound n at : ℕ) (path : List Decision) (waiting : List Waiting) (leaves : List PassedLeaf) (split : Bool)
-    → IsTree nodes → IsOnWay l nodes n at path waiting → AreKept l nodes bound n leaves → (IsTrue split → Shows l path (node_at nodes at) bound)
+    → IsTree nodes → IsOnWay l nodes n at path waiting → AreKept l nodes bound n leaves
+    → (IsTrue split → Shows l path (node_at nodes at) bound)
     → AreKept l nodes bound (n + 1) (leaves ++ passed_with split n at path)
 kept_with l nodes bound n at path waiting leaves true tree way kept shows =
     let P : List PassedLeaf → Type 0 = λ xs. AreKept l nodes bound (n + 1) xs in
@@ -95,8 +101,10 @@ kept_with l nodes bound n at path waiting leaves false tree way kept shows = kep
 -- a node is passed, at what the code reads
 pub kept_on : (l : LineData) (nodes : List Node) (bound n at : ℕ) (path slice passed : List Decision) (waiting : List Waiting)
     (leaves more : List PassedLeaf) (node : Node)
-    → IsTree nodes → IsOnWay l nodes n at path waiting → AreKept l nodes bound n leaves → node ≡ node_at nodes at → slice ≡ path → passed ≡ path
-    → (IsTrue (is_split node) → Shows l slice node bound) → more ≡ leaves ++ passed_at n at node passed → AreKept l nodes bound (n + 1) more
+    → IsTree nodes → IsOnWay l nodes n at path waiting → AreKept l nodes bound n leaves → node ≡ node_at nodes at
+    → slice ≡ path → passed ≡ path
+    → (IsTrue (is_split node) → Shows l slice node bound) → more ≡ leaves ++ passed_at n at node passed
+    → AreKept l nodes bound (n + 1) more
 kept_on l nodes bound n at path slice passed waiting leaves more node tree way kept read same again shows is =
     let S : Node → Type 0 = λ x. IsTrue (is_split node) → Shows l path x bound in
     let D : List Decision → Type 0 = λ ds. IsTrue (is_split node) → Shows l ds node bound in
@@ -106,7 +114,8 @@ kept_on l nodes bound n at path slice passed waiting leaves more node tree way k
 
 -- ---- what is said of them
 
-pub kept_flawed : (l : LineData) (nodes : List Node) (bound n : ℕ) (leaves : List PassedLeaf) (r : Reason) → IsTree nodes
+pub kept_flawed : (l : LineData) (nodes : List Node) (bound n : ℕ) (leaves : List PassedLeaf) (r : Reason)
+    → IsTree nodes
     → AreKept l nodes bound n leaves → IsFirstAmong l nodes bound leaves r → IsFirstFlawed l nodes bound r
 kept_flawed l nodes bound n leaves r tree kept first =
     let P : PassedLeaf → Type 0 = λ x. IsPassed l nodes x in
@@ -118,8 +127,10 @@ kept_flawed l nodes bound n leaves r tree kept first =
 -- a split has this flaw, and the leaves before it were tried
 pub kept_split_flawed : (l : LineData) (nodes : List Node) (bound n at : ℕ) (path slice : List Decision) (waiting : List Waiting) (leaves : List PassedLeaf)
     (node : Node) (earlier : Option Reason) (r : Reason)
-    → IsTree nodes → IsOnWay l nodes n at path waiting → AreKept l nodes bound n leaves → node ≡ node_at nodes at → slice ≡ path
-    → IsFirstFlaw l slice node bound n r → IsAnswerOf l nodes bound leaves earlier → IsTreeAnswer l nodes bound (option_or earlier (Some r))
+    → IsTree nodes → IsOnWay l nodes n at path waiting → AreKept l nodes bound n leaves → node ≡ node_at nodes at
+    → slice ≡ path
+    → IsFirstFlaw l slice node bound n r → IsAnswerOf l nodes bound leaves earlier
+    → IsTreeAnswer l nodes bound (option_or earlier (Some r))
 kept_split_flawed l nodes bound n at path slice waiting leaves node (Some s) r tree way kept read same flaw earlier =
     kept_flawed l nodes bound n leaves s tree kept earlier
 kept_split_flawed l nodes bound n at path slice waiting leaves node None r tree way kept read same flaw earlier =
@@ -127,7 +138,8 @@ kept_split_flawed l nodes bound n at path slice waiting leaves node None r tree 
     let D : List Decision → Type 0 = λ ds. IsFirstFlaw l ds node bound n r in
     flawed_here l nodes bound n at path r tree (stands_here l nodes n at path waiting tree way) (kept.shown earlier) (subst S read (subst D same flaw))
 
-pub kept_tried : (l : LineData) (nodes : List Node) (bound n : ℕ) (leaves waiting : List PassedLeaf) → AreKept l nodes bound n leaves
+pub kept_tried : (l : LineData) (nodes : List Node) (bound n : ℕ) (leaves waiting : List PassedLeaf)
+    → AreKept l nodes bound n leaves
     → AreTried l nodes bound leaves waiting → AreKept l nodes bound n waiting
 kept_tried l nodes bound n leaves waiting kept tried =
     let P : List PassedLeaf → Type 0 = λ xs. AreKept l nodes bound n xs in
@@ -136,7 +148,8 @@ kept_tried l nodes bound n leaves waiting kept tried =
 -- no node waits, and the leaves are tried
 pub kept_ends : (l : LineData) (nodes : List Node) (bound n : ℕ) (path : List Decision) (pushed : List Waiting) (leaves : List PassedLeaf)
     (answer : Option Reason)
-    → IsTree nodes → IsPushed l nodes n path pushed → pushed ≡ [] → AreKept l nodes bound (n + 1) leaves → IsAnswerOf l nodes bound leaves answer
+    → IsTree nodes → IsPushed l nodes n path pushed → pushed ≡ [] → AreKept l nodes bound (n + 1) leaves
+    → IsAnswerOf l nodes bound leaves answer
     → IsTreeAnswer l nodes bound answer
 kept_ends l nodes bound n path pushed leaves None tree p none kept all = way_ends l nodes bound n path pushed tree p none (kept.shown all)
 kept_ends l nodes bound n path pushed leaves (Some r) tree p none kept first = kept_flawed l nodes bound (n + 1) leaves r tree kept first
@@ -144,7 +157,8 @@ kept_ends l nodes bound n path pushed leaves (Some r) tree p none kept first = k
 -- ---- the first among the answers
 
 module _ (l : LineData) (nodes : List Node) (bound : ℕ) where
-  among_later : (x : PassedLeaf) (xs : List PassedLeaf) (answer : Option Reason) → LeafShows l nodes bound x → IsAnswerOf l nodes bound xs answer
+  among_later : (x : PassedLeaf) (xs : List PassedLeaf) (answer : Option Reason) → LeafShows l nodes bound x
+      → IsAnswerOf l nodes bound xs answer
       → IsAnswerOf l nodes bound (x ∷ xs) answer
   among_later x xs None shows all = All-cons (λ y. LeafShows l nodes bound y) x xs shows all
   among_later x xs (Some r) shows first = record {
@@ -164,7 +178,8 @@ module _ (l : LineData) (nodes : List Node) (bound : ℕ) where
 
   -- the first answer that names a flaw
   pub first_found : (xs : List PassedLeaf) (answers : List (Option Reason)) (bs : List Bool)
-      → AllZip (λ x answer. IsLeafAnswer l nodes bound x answer) xs answers → AllZip (λ answer b. b ≡ is_some answer) answers bs
+      → AllZip (λ x answer. IsLeafAnswer l nodes bound x answer) xs answers
+      → AllZip (λ answer b. b ≡ is_some answer) answers bs
       → MatchOption (slice_get (filter_by_mask answers bs) 0) (IsAnswerOf l nodes bound xs None) (λ answer. IsAnswerOf l nodes bound xs answer)
   first_found [] [] [] zip named = All-nil (λ y. LeafShows l nodes bound y)
   first_found [] [] (b ∷ bs) zip named = absurd named
@@ -200,7 +215,8 @@ leaf_longer ds path leaf h =
     ∙ take-append-le count (drop begin ds) path (omega (arith, h.0, h.1, length-drop begin ds)) in
     ap (λ (xs : List Decision). (let x : PassedLeaf = record { number = leaf.number; node = leaf.node; path = xs } in x)) e
 
-leaves_longer : (ds path : List Decision) (leaves : List Leaf) → All (IsWithin ds) leaves → map (leaf_of (ds ++ path)) leaves ≡ map (leaf_of ds) leaves
+leaves_longer : (ds path : List Decision) (leaves : List Leaf) → All (IsWithin ds) leaves
+    → map (leaf_of (ds ++ path)) leaves ≡ map (leaf_of ds) leaves
 leaves_longer ds path [] h = refl
 leaves_longer ds path (x ∷ xs) h =
     let P : Leaf → Type 0 = λ y. IsWithin ds y in
@@ -216,8 +232,10 @@ path_there ds path =
     ∙ take_all count path (omega (arith, length-append ds path))
 
 pub leaf_kept : (ds more path : List Decision) (leaves pushed : List Leaf) (kept : List PassedLeaf) (number at begin end : ℕ) (node : Node)
-    → All (IsWithin ds) leaves → map (leaf_of ds) leaves ≡ kept → more ≡ ds ++ path → begin ≡ length ds → end ≡ length more
-    → pushed ≡ leaves ++ (let x : Leaf = record { number = number; node = at; begin = begin; end = end } in x) ∷ [] → is_split node ≡ false
+    → All (IsWithin ds) leaves → map (leaf_of ds) leaves ≡ kept → more ≡ ds ++ path → begin ≡ length ds
+    → end ≡ length more
+    → pushed ≡ leaves ++ (let x : Leaf = record { number = number; node = at; begin = begin; end = end } in x) ∷ []
+    → is_split node ≡ false
     → map (leaf_of more) pushed ≡ kept ++ passed_at number at node path
 leaf_kept ds more path leaves pushed kept number at begin end node within seen longer from to is leaf =
     let x : Leaf = record { number = number; node = at; begin = begin; end = end } in

@@ -26,13 +26,15 @@ given_from (Some s) m p t le le' shut gains =
     (λ up. refutes_on s.w s.q p t gains up le')
 
 -- before the greater of two periods each is refuted by one of two walks
-pub given_before : (low high : Option Sums) (m n p : ℕ) → p ≡ max m n → ((t : ℕ) → 1 ≤ t → t < m → Gives low t) → ((t : ℕ) → 1 ≤ t → t < n → Gives high t)
+pub given_before : (low high : Option Sums) (m n p : ℕ) → p ≡ max m n → ((t : ℕ) → 1 ≤ t → t < m → Gives low t)
+    → ((t : ℕ) → 1 ≤ t → t < n → Gives high t)
     → AllGiven low high p
 given_before low high m n p is a b t some lt =
     ⊎_elim (λ under. inl (a t some under)) (λ over. inr (b t some (omega (arith, is, lt, over)))) (cases_lt t m)
 
 -- where one of them refutes that period too, all are refuted
-pub given_by_low : (low high : Option Sums) (m n p bound : ℕ) → p ≡ max m n → ((t : ℕ) → 1 ≤ t → t < m → Gives low t) → ((t : ℕ) → 1 ≤ t → t < n → Gives high t)
+pub given_by_low : (low high : Option Sums) (m n p bound : ℕ) → p ≡ max m n → ((t : ℕ) → 1 ≤ t → t < m → Gives low t)
+    → ((t : ℕ) → 1 ≤ t → t < n → Gives high t)
     → (Gives low m → ⊥) → Gives low p → AllGiven low high bound
 given_by_low low high m n p bound is a b shut gains t some lt =
     ⊎_elim (λ under. given_before low high m n p is a b t some under) (λ over. inl (given_from low m p t (omega (arith, is)) over shut gains)) (cases_lt t p)

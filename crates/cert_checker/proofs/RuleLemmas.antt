@@ -35,17 +35,20 @@ some_is_not_none : (o : Option TimetableData) → o ≡ None → IsSome o → �
 some_is_not_none None e h = false≢true h
 some_is_not_none (Some t) e h = cc
 
-missing_none : (l : LineData) (v : Verdict) (o : Option TimetableData) (bound : ℕ) → IsClaim l v o bound → v ≡ Optimal → o ≡ None → ⊥
+missing_none : (l : LineData) (v : Verdict) (o : Option TimetableData) (bound : ℕ) → IsClaim l v o bound → v ≡ Optimal
+    → o ≡ None → ⊥
 missing_none l v o bound claim e f =
     let P : Verdict → Type 0 = λ x. IsClaim l x o bound in
     let Q : Option TimetableData → Type 0 = λ x. IsClaim l Optimal x bound in
     subst Q f (subst P e claim)
 
-extra_none : (l : LineData) (v : Verdict) (o : Option TimetableData) (bound : ℕ) → IsClaim l v o bound → v ≡ Nothing → IsSome o → ⊥
+extra_none : (l : LineData) (v : Verdict) (o : Option TimetableData) (bound : ℕ) → IsClaim l v o bound → v ≡ Nothing
+    → IsSome o → ⊥
 extra_none l v None bound claim e some = false≢true some
 extra_none l v (Some t) bound claim e some = let P : Verdict → Type 0 = λ x. IsClaim l x (Some t) bound in subst P e claim
 
-bound_none : (l : LineData) (v : Verdict) (o : Option TimetableData) (bound seen want : ℕ) → IsClaim l v o bound → seen ≡ bound → IsWrongBound l v o seen want
+bound_none : (l : LineData) (v : Verdict) (o : Option TimetableData) (bound seen want : ℕ) → IsClaim l v o bound
+    → seen ≡ bound → IsWrongBound l v o seen want
     → ⊥
 bound_none l Optimal None bound seen want claim e wrong = claim
 bound_none l Optimal (Some t) bound seen want claim e wrong = wrong.1 (e ∙ claim ∙ sym wrong.0)
@@ -54,10 +57,12 @@ bound_none l Nothing (Some t) bound seen want claim e wrong = claim
 bound_none l Unfinished None bound seen want claim e wrong = omega (arith, wrong.1, wrong.0, claim, e)
 bound_none l Unfinished (Some t) bound seen want claim e wrong = omega (arith, wrong.1, wrong.0, claim, e)
 
-pub number_there : (nodes : List Node) (n : ℕ) → IsTree nodes → n < length (preorder nodes) → number_at nodes n < length nodes
+pub number_there : (nodes : List Node) (n : ℕ) → IsTree nodes → n < length (preorder nodes)
+    → number_at nodes n < length nodes
 number_there nodes n tree lt = All-get_or (λ j. j < length nodes) (preorder nodes) n 0 lt (preorder_there nodes tree)
 
-left_node_none : (a : Answer) (v : Verdict) (n : ℕ) → IsTree a.tree → HasItsLeft a v → v ≢ Unfinished → IsLeftNode a.tree n → ⊥
+left_node_none : (a : Answer) (v : Verdict) (n : ℕ) → IsTree a.tree → HasItsLeft a v → v ≢ Unfinished
+    → IsLeftNode a.tree n → ⊥
 left_node_none a Optimal n tree left differ here = left (number_at a.tree n) (number_there a.tree n tree here.0) here.1
 left_node_none a Nothing n tree left differ here = left (number_at a.tree n) (number_there a.tree n tree here.0) here.1
 left_node_none a Unfinished n tree left differ here = differ refl
@@ -68,17 +73,20 @@ no_left_none a v left e none =
     let r = subst P e left in
     none r.0 r.1 r.2
 
-same_timetable : (l : LineData) (o : Option TimetableData) (t : TimetableData) → o ≡ Some t → IfSome o (λ d. IsLegal l (timetable_of d))
+same_timetable : (l : LineData) (o : Option TimetableData) (t : TimetableData) → o ≡ Some t
+    → IfSome o (λ d. IsLegal l (timetable_of d))
     → IsLegal l (timetable_of t)
 same_timetable l o t e legal = let P : Option TimetableData → Type 0 = λ x. IfSome x (λ d. IsLegal l (timetable_of d)) in subst P e legal
 
-flawed_none : (l : LineData) (nodes : List Node) (bound n : ℕ) (r : Reason) → IsTree nodes → Proves l nodes bound → IsFlawed l nodes bound n r → ⊥
+flawed_none : (l : LineData) (nodes : List Node) (bound n : ℕ) (r : Reason) → IsTree nodes → Proves l nodes bound
+    → IsFlawed l nodes bound n r → ⊥
 flawed_none l nodes bound n r tree proves f =
     let there : f.node < length nodes = omega (arith, number_there nodes n tree f.stands.there, f.stands.is) in
     no_flaw_shown l f.path (node_at nodes f.node) bound r (proves f.node f.path there f.stands.leads) f.flaw
 
 -- by rule: what is left of the rules below each number
-pub claim_rules : (l : LineData) (a : Answer) (r : Reason) → IsClaim l a.verdict a.timetable a.bound → HasReason l a r → rule_number r < 3 → ⊥
+pub claim_rules : (l : LineData) (a : Answer) (r : Reason) → IsClaim l a.verdict a.timetable a.bound → HasReason l a r
+    → rule_number r < 3 → ⊥
 claim_rules l a reasons.TimetableMissing claim has lt = missing_none l a.verdict a.timetable a.bound claim has.0 has.1
 claim_rules l a reasons.TimetableExtra claim has lt = extra_none l a.verdict a.timetable a.bound claim has.0 has.1
 claim_rules l a (reasons.Bound seen want) claim has lt = bound_none l a.verdict a.timetable a.bound seen want claim has.0 has.1
@@ -92,7 +100,8 @@ claim_rules l a (reasons.Token n j) claim has lt = omega (arith, lt)
 claim_rules l a (reasons.Joint n j) claim has lt = omega (arith, lt)
 claim_rules l a (reasons.Period n period low high) claim has lt = omega (arith, lt)
 
-pub splits_rule : (l : LineData) (a : Answer) (r : Reason) → IsClaim l a.verdict a.timetable a.bound → a.splits ≡ split_count a.tree → HasReason l a r
+pub splits_rule : (l : LineData) (a : Answer) (r : Reason) → IsClaim l a.verdict a.timetable a.bound
+    → a.splits ≡ split_count a.tree → HasReason l a r
     → rule_number r < 4 → ⊥
 splits_rule l a reasons.TimetableMissing claim splits has lt = claim_rules l a reasons.TimetableMissing claim has (omega arith)
 splits_rule l a reasons.TimetableExtra claim splits has lt = claim_rules l a reasons.TimetableExtra claim has (omega arith)
@@ -107,7 +116,8 @@ splits_rule l a (reasons.Token n j) claim splits has lt = omega (arith, lt)
 splits_rule l a (reasons.Joint n j) claim splits has lt = omega (arith, lt)
 splits_rule l a (reasons.Period n period low high) claim splits has lt = omega (arith, lt)
 
-pub left_rules : (l : LineData) (a : Answer) (r : Reason) → IsTree a.tree → IsClaim l a.verdict a.timetable a.bound → a.splits ≡ split_count a.tree
+pub left_rules : (l : LineData) (a : Answer) (r : Reason) → IsTree a.tree → IsClaim l a.verdict a.timetable a.bound
+    → a.splits ≡ split_count a.tree
     → HasItsLeft a a.verdict → HasReason l a r → rule_number r < 6 → ⊥
 left_rules l a reasons.TimetableMissing tree claim splits left has lt = claim_rules l a reasons.TimetableMissing claim has (omega arith)
 left_rules l a reasons.TimetableExtra tree claim splits left has lt = claim_rules l a reasons.TimetableExtra claim has (omega arith)
@@ -122,8 +132,10 @@ left_rules l a (reasons.Token n j) tree claim splits left has lt = omega (arith,
 left_rules l a (reasons.Joint n j) tree claim splits left has lt = omega (arith, lt)
 left_rules l a (reasons.Period n period low high) tree claim splits left has lt = omega (arith, lt)
 
-pub fault_rule : (l : LineData) (a : Answer) (r : Reason) → IsLine l → IsTree a.tree → IsClaim l a.verdict a.timetable a.bound → a.splits ≡ split_count a.tree
-    → HasItsLeft a a.verdict → IfSome a.timetable (λ t. IsLegal l (timetable_of t)) → HasReason l a r → rule_number r < 7 → ⊥
+pub fault_rule : (l : LineData) (a : Answer) (r : Reason) → IsLine l → IsTree a.tree
+    → IsClaim l a.verdict a.timetable a.bound → a.splits ≡ split_count a.tree
+    → HasItsLeft a a.verdict → IfSome a.timetable (λ t. IsLegal l (timetable_of t)) → HasReason l a r
+    → rule_number r < 7 → ⊥
 fault_rule l a reasons.TimetableMissing line tree claim splits left legal has lt = claim_rules l a reasons.TimetableMissing claim has (omega arith)
 fault_rule l a reasons.TimetableExtra line tree claim splits left legal has lt = claim_rules l a reasons.TimetableExtra claim has (omega arith)
 fault_rule l a (reasons.Bound seen want) line tree claim splits left legal has lt = claim_rules l a (reasons.Bound seen want) claim has (omega arith)
@@ -140,7 +152,8 @@ fault_rule l a (reasons.Period n period low high) line tree claim splits left le
 
 -- ---- reasons of nodes
 
-pub node_reason_is : (l : LineData) (a : Answer) (r : Reason) → HasReason l a r → 7 ≤ rule_number r → IsFlawed l a.tree a.bound (named r) r
+pub node_reason_is : (l : LineData) (a : Answer) (r : Reason) → HasReason l a r → 7 ≤ rule_number r
+    → IsFlawed l a.tree a.bound (named r) r
 node_reason_is l a reasons.TimetableMissing has le = absurd (omega (arith, le))
 node_reason_is l a reasons.TimetableExtra has le = absurd (omega (arith, le))
 node_reason_is l a (reasons.Bound seen want) has le = absurd (omega (arith, le))
@@ -154,7 +167,8 @@ node_reason_is l a (reasons.Token n j) has le = has
 node_reason_is l a (reasons.Joint n j) has le = has
 node_reason_is l a (reasons.Period n period low high) has le = has
 
-pub flawed_is_reason : (l : LineData) (a : Answer) (r : Reason) → IsFlawed l a.tree a.bound (named r) r → HasReason l a r × (rule_number r ≡ 7)
+pub flawed_is_reason : (l : LineData) (a : Answer) (r : Reason) → IsFlawed l a.tree a.bound (named r) r
+    → HasReason l a r × (rule_number r ≡ 7)
 flawed_is_reason l a reasons.TimetableMissing f = absurd f.flaw
 flawed_is_reason l a reasons.TimetableExtra f = absurd f.flaw
 flawed_is_reason l a (reasons.Bound seen want) f = absurd f.flaw
@@ -202,7 +216,8 @@ few_rules (reasons.Period n period low high) = omega arith
 abbrev pub NoneUnder : LineData → Answer → ℕ → Type 0
 NoneUnder l a rule = (s : Reason) → HasReason l a s → rule_number s < rule → ⊥
 
-pub first_of_all : (l : LineData) (a : Answer) (rule : ℕ) (r : Reason) → NoneUnder l a rule → IsFirstFrom l a rule r → IsFirstReason l a r
+pub first_of_all : (l : LineData) (a : Answer) (rule : ℕ) (r : Reason) → NoneUnder l a rule → IsFirstFrom l a rule r
+    → IsFirstReason l a r
 first_of_all l a rule r none from = record {
   has = from.has;
   first = λ s has earlier. ⊎_elim (λ lt. none s has lt) (λ le. from.first s has le earlier) (cases_lt (rule_number s) rule);
@@ -218,7 +233,8 @@ none_before_nil [] h = h
 none_before_nil (x ∷ xs) h = h
 
 -- a rule with one reason at most
-pub first_alone : (l : LineData) (a : Answer) (rule : ℕ) (r : Reason) → HasReason l a r → rule_number r ≡ rule → place_in_rule r ≡ [] → IsFirstFrom l a rule r
+pub first_alone : (l : LineData) (a : Answer) (rule : ℕ) (r : Reason) → HasReason l a r → rule_number r ≡ rule
+    → place_in_rule r ≡ [] → IsFirstFrom l a rule r
 first_alone l a rule r has e nothing = record {
   has = has;
   first = λ s has' le earlier.
@@ -251,7 +267,8 @@ first_flaw_of l a r f =
     }
 
 -- the first left node
-left_before : (l : LineData) (a : Answer) (s : Reason) (n : ℕ) → ((m : ℕ) → m < n → IsLeftNode a.tree m → ⊥) → HasReason l a s → rule_number s ≡ 4
+left_before : (l : LineData) (a : Answer) (s : Reason) (n : ℕ) → ((m : ℕ) → m < n → IsLeftNode a.tree m → ⊥)
+    → HasReason l a s → rule_number s ≡ 4
     → IsLess (place_in_rule s) (pos n ∷ []) → ⊥
 left_before l a reasons.TimetableMissing n none has e less = omega (arith, e)
 left_before l a reasons.TimetableExtra n none has e less = omega (arith, e)
@@ -266,7 +283,8 @@ left_before l a (reasons.Token m j) n none has e less = omega (arith, e)
 left_before l a (reasons.Joint m j) n none has e less = omega (arith, e)
 left_before l a (reasons.Period m period low high) n none has e less = omega (arith, e)
 
-pub first_left_node : (l : LineData) (a : Answer) (n : ℕ) → a.verdict ≢ Unfinished → IsLeftNode a.tree n → ((m : ℕ) → m < n → IsLeftNode a.tree m → ⊥)
+pub first_left_node : (l : LineData) (a : Answer) (n : ℕ) → a.verdict ≢ Unfinished → IsLeftNode a.tree n
+    → ((m : ℕ) → m < n → IsLeftNode a.tree m → ⊥)
     → IsFirstFrom l a 4 (reasons.LeftNode n)
 first_left_node l a n differ here none = record {
   has = (differ, here);
@@ -274,7 +292,8 @@ first_left_node l a n differ here none = record {
       ⊎_elim (λ lt. omega (arith, lt, le)) (λ same. left_before l a s n none has same.0 same.1) (earlier_cases s (reasons.LeftNode n) earlier);
 }
 
-no_left_node : (l : LineData) (a : Answer) (s : Reason) → a.verdict ≡ Unfinished → HasReason l a s → rule_number s ≡ 4 → ⊥
+no_left_node : (l : LineData) (a : Answer) (s : Reason) → a.verdict ≡ Unfinished → HasReason l a s → rule_number s ≡ 4
+    → ⊥
 no_left_node l a reasons.TimetableMissing v has e = omega (arith, e)
 no_left_node l a reasons.TimetableExtra v has e = omega (arith, e)
 no_left_node l a (reasons.Bound seen want) v has e = omega (arith, e)
@@ -288,7 +307,8 @@ no_left_node l a (reasons.Token m j) v has e = omega (arith, e)
 no_left_node l a (reasons.Joint m j) v has e = omega (arith, e)
 no_left_node l a (reasons.Period m period low high) v has e = omega (arith, e)
 
-pub first_no_left : (l : LineData) (a : Answer) → a.verdict ≡ Unfinished → NoneLeft a.tree → IsFirstFrom l a 4 reasons.NoLeft
+pub first_no_left : (l : LineData) (a : Answer) → a.verdict ≡ Unfinished → NoneLeft a.tree
+    → IsFirstFrom l a 4 reasons.NoLeft
 first_no_left l a v none = record {
   has = (v, none);
   first = λ s has le earlier.
@@ -299,7 +319,8 @@ first_no_left l a v none = record {
 }
 
 -- the first fault
-fault_before : (l : LineData) (a : Answer) (s : Reason) (t : TimetableData) (f : Fault) → a.timetable ≡ Some t → IsFirstFault l (timetable_of t) f
+fault_before : (l : LineData) (a : Answer) (s : Reason) (t : TimetableData) (f : Fault) → a.timetable ≡ Some t
+    → IsFirstFault l (timetable_of t) f
     → HasReason l a s → rule_number s ≡ 6 → IsLess (place_in_rule s) (pos (rule_of f) ∷ values_of f) → ⊥
 fault_before l a reasons.TimetableMissing t f is first has e less = omega (arith, e)
 fault_before l a reasons.TimetableExtra t f is first has e less = omega (arith, e)
@@ -317,7 +338,8 @@ fault_before l a (reasons.Token m j) t f is first has e less = omega (arith, e)
 fault_before l a (reasons.Joint m j) t f is first has e less = omega (arith, e)
 fault_before l a (reasons.Period m period low high) t f is first has e less = omega (arith, e)
 
-pub first_fault_of : (l : LineData) (a : Answer) (t : TimetableData) (f : Fault) → a.timetable ≡ Some t → IsFirstFault l (timetable_of t) f
+pub first_fault_of : (l : LineData) (a : Answer) (t : TimetableData) (f : Fault) → a.timetable ≡ Some t
+    → IsFirstFault l (timetable_of t) f
     → IsFirstFrom l a 6 (reasons.Fault f)
 first_fault_of l a t f is first = record {
   has = (t, is, first.has);
@@ -335,7 +357,8 @@ no_reason l a r line tree kept has =
     (cases_lt (rule_number r) 7)
 
 -- a reason is a rule that isn't kept
-pub not_kept : (l : LineData) (a : Answer) (r : Reason) → IsLine l → IsTree a.tree → HasReason l a r → KeepsRules l a → ⊥
+pub not_kept : (l : LineData) (a : Answer) (r : Reason) → IsLine l → IsTree a.tree → HasReason l a r → KeepsRules l a
+    → ⊥
 not_kept l a r line tree has kept = no_reason l a r line tree kept has
 
 -- ---- what the rules answer, where they were tried one after another
@@ -346,19 +369,24 @@ IsLeftAnswer a o = (l : LineData) → MatchOption o (HasItsLeft a a.verdict) (λ
 pub left_kept : (l : LineData) (a : Answer) (o : Option Reason) → IsLeftAnswer a o → o ≡ None → HasItsLeft a a.verdict
 left_kept l a o answer e = let P : Option Reason → Type 0 = λ p. IsLeftAnswer a p in subst P e answer l
 
-pub left_found : (l : LineData) (a : Answer) (o : Option Reason) (r : Reason) → IsLeftAnswer a o → o ≡ Some r → IsFirstFrom l a 4 r
+pub left_found : (l : LineData) (a : Answer) (o : Option Reason) (r : Reason) → IsLeftAnswer a o → o ≡ Some r
+    → IsFirstFrom l a 4 r
 left_found l a o r answer e = let P : Option Reason → Type 0 = λ p. IsLeftAnswer a p in subst P e answer l
 
-pub tree_kept : (l : LineData) (a : Answer) (o : Option Reason) → IsTreeAnswer l a.tree a.bound o → o ≡ None → Proves l a.tree a.bound
+pub tree_kept : (l : LineData) (a : Answer) (o : Option Reason) → IsTreeAnswer l a.tree a.bound o → o ≡ None
+    → Proves l a.tree a.bound
 tree_kept l a o answer e = let P : Option Reason → Type 0 = λ p. IsTreeAnswer l a.tree a.bound p in subst P e answer
 
-pub tree_found : (l : LineData) (a : Answer) (o : Option Reason) (r : Reason) → IsTreeAnswer l a.tree a.bound o → o ≡ Some r → IsFirstFrom l a 7 r
+pub tree_found : (l : LineData) (a : Answer) (o : Option Reason) (r : Reason) → IsTreeAnswer l a.tree a.bound o
+    → o ≡ Some r → IsFirstFrom l a 7 r
 tree_found l a o r answer e =
     let P : Option Reason → Type 0 = λ p. IsTreeAnswer l a.tree a.bound p in
     first_flaw_of l a r (subst P e answer)
 
-pub all_kept : (l : LineData) (a : Answer) (o p : Option Reason) → IsClaim l a.verdict a.timetable a.bound → a.splits ≡ split_count a.tree
-    → IsLeftAnswer a o → o ≡ None → IfSome a.timetable (λ t. IsLegal l (timetable_of t)) → IsTreeAnswer l a.tree a.bound p → p ≡ None → KeepsRules l a
+pub all_kept : (l : LineData) (a : Answer) (o p : Option Reason) → IsClaim l a.verdict a.timetable a.bound
+    → a.splits ≡ split_count a.tree
+    → IsLeftAnswer a o → o ≡ None → IfSome a.timetable (λ t. IsLegal l (timetable_of t))
+    → IsTreeAnswer l a.tree a.bound p → p ≡ None → KeepsRules l a
 all_kept l a o p claim splits left none legal tree shown = record {
   claim = claim;
   splits = splits;

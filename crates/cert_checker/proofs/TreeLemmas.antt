@@ -44,7 +44,8 @@ AreReady l nodes path [] = Unit {0}
 AreReady l nodes path (w ∷ ws) = (w.above ≤ length path) × IsReady l nodes (path_of path w) w.node × AreReady l nodes (take w.above path) ws
 
 -- a longer path leaves them ready
-ready_longer : (l : LineData) (nodes : List Node) (path more : List Decision) (ws : List Waiting) → AreReady l nodes path ws
+ready_longer : (l : LineData) (nodes : List Node) (path more : List Decision) (ws : List Waiting)
+    → AreReady l nodes path ws
     → AreReady l nodes (path ++ more) ws
 ready_longer l nodes path more [] h = tt
 ready_longer l nodes path more (w ∷ ws) h =
@@ -77,7 +78,8 @@ pub record IsOnWay (l : LineData) (nodes : List Node) (n at : ℕ) (path : List 
   pub left_over : drop n (preorder nodes) ≡ below nodes at ++ flat_map (below nodes) (map (λ (w : Waiting). w.node) (reverse waiting))
   pub ready : AreReady l nodes path (reverse waiting)
 
-pub on_way_first : (l : LineData) (nodes : List Node) (path : List Decision) (waiting : List Waiting) → IsTree nodes → path ≡ [] → waiting ≡ []
+pub on_way_first : (l : LineData) (nodes : List Node) (path : List Decision) (waiting : List Waiting) → IsTree nodes
+    → path ≡ [] → waiting ≡ []
     → IsOnWay l nodes 0 0 path waiting
 on_way_first l nodes path waiting tree e f =
     let P : List Decision → Type 0 = λ ds. IsOnWay l nodes 0 0 ds waiting in
@@ -89,7 +91,8 @@ on_way_first l nodes path waiting tree e f =
     }))
 
 -- the node where one is has its number
-first_left_over : (nodes : List Node) (n i : ℕ) (rest : List ℕ) → drop n (preorder nodes) ≡ i ∷ rest → (n < length (preorder nodes)) × (number_at nodes n ≡ i)
+first_left_over : (nodes : List Node) (n i : ℕ) (rest : List ℕ) → drop n (preorder nodes) ≡ i ∷ rest
+    → (n < length (preorder nodes)) × (number_at nodes n ≡ i)
 first_left_over nodes n i rest e =
     let size = ap (λ (xs : List ℕ). length xs) e in
     let z : n + 0 ≡ n = omega arith in
@@ -109,14 +112,16 @@ over_here l nodes n at path waiting tree way =
     ∙ ap (λ (xs : List ℕ). xs ++ flat_map (below nodes) rest) (below_step nodes tree at way.here.there)
     ∙ ap (λ (xs : List ℕ). at ∷ xs) (sym (flat_map-append (below nodes) cs rest))
 
-pub stands_here : (l : LineData) (nodes : List Node) (n at : ℕ) (path : List Decision) (waiting : List Waiting) → IsTree nodes
+pub stands_here : (l : LineData) (nodes : List Node) (n at : ℕ) (path : List Decision) (waiting : List Waiting)
+    → IsTree nodes
     → IsOnWay l nodes n at path waiting → StandsAt nodes n at path
 stands_here l nodes n at path waiting tree way =
     let r = first_left_over nodes n at _ (over_here l nodes n at path waiting tree way) in
     record { there = r.0; is = r.1; leads = way.here.leads }
 
 -- only this node and path stand there
-same_stand : (nodes : List Node) (n i j : ℕ) (p q : List Decision) → IsTree nodes → StandsAt nodes n i p → StandsAt nodes n j q → (i ≡ j) × (p ≡ q)
+same_stand : (nodes : List Node) (n i j : ℕ) (p q : List Decision) → IsTree nodes → StandsAt nodes n i p
+    → StandsAt nodes n j q → (i ≡ j) × (p ≡ q)
 same_stand nodes n i j p q tree a b =
     let e : i ≡ j = sym a.is ∙ b.is in
     let P : ℕ → Type 0 = λ k. IsPathTo nodes k p in
@@ -129,7 +134,8 @@ abbrev pub AreShown : LineData → List Node → ℕ → ℕ → Type 0
 AreShown l nodes bound n = (m i : ℕ) (p : List Decision) → m < n → StandsAt nodes m i p → Shows l p (node_at nodes i) bound
 
 pub flawed_here : (l : LineData) (nodes : List Node) (bound n at : ℕ) (path : List Decision) (r : Reason) → IsTree nodes
-    → StandsAt nodes n at path → AreShown l nodes bound n → IsFirstFlaw l path (node_at nodes at) bound n r → IsFirstFlawed l nodes bound r
+    → StandsAt nodes n at path → AreShown l nodes bound n → IsFirstFlaw l path (node_at nodes at) bound n r
+    → IsFirstFlawed l nodes bound r
 flawed_here l nodes bound n at path r tree stands shown first =
     let F : ℕ → Type 0 = λ k. IsFlawed l nodes bound k r in
     let flawed : IsFlawed l nodes bound n r = record { node = at; path = path; stands = stands; flaw = first.has } in
@@ -146,7 +152,8 @@ flawed_here l nodes bound n at path r tree stands shown first =
 
 -- all nodes up to this one show it
 pub shown_more : (l : LineData) (nodes : List Node) (bound n at : ℕ) (path : List Decision) → IsTree nodes
-    → StandsAt nodes n at path → AreShown l nodes bound n → Shows l path (node_at nodes at) bound → AreShown l nodes bound (n + 1)
+    → StandsAt nodes n at path → AreShown l nodes bound n → Shows l path (node_at nodes at) bound
+    → AreShown l nodes bound (n + 1)
 shown_more l nodes bound n at path tree here shown shows m i p lt stands =
     ⊎_elim (λ before. shown m i p before stands)
     (λ ge.
@@ -169,9 +176,11 @@ drop_one : (n i : ℕ) (xs rest : List ℕ) → drop n xs ≡ i ∷ rest → dro
 drop_one n i xs rest e =
     sym (drop-drop 1 n xs) ∙ ap (λ (ys : List ℕ). drop 1 ys) e
 
-children_ready : (l : LineData) (nodes : List Node) (at : ℕ) (path : List Decision) (question : Question) (cs : List ℕ) → IsTree nodes
+children_ready : (l : LineData) (nodes : List Node) (at : ℕ) (path : List Decision) (question : Question) (cs : List ℕ)
+    → IsTree nodes
     → IsReady l nodes path at → node_at nodes at ≡ Split question cs → IsWholeSplit l path question cs
-    → (k : ℕ) → k < length cs → IsReady l nodes (path ++ (let d : Decision = record { question = question; child = 0 + k } in d) ∷ []) (get_or cs k 0)
+    → (k : ℕ) → k < length cs
+    → IsReady l nodes (path ++ (let d : Decision = record { question = question; child = 0 + k } in d) ∷ []) (get_or cs k 0)
 children_ready l nodes at path question cs tree here split whole k lt =
     let d : Decision = record { question = question; child = 0 + k } in
     let z : 0 + k ≡ k = omega arith in
@@ -185,7 +194,8 @@ children_ready l nodes at path question cs tree here split whole k lt =
 pushed_split : (l : LineData) (nodes : List Node) (n at : ℕ) (path : List Decision) (waiting pushed : List Waiting) (question : Question)
     (cs : List ℕ)
     → IsTree nodes → IsOnWay l nodes n at path waiting → node_at nodes at ≡ Split question cs
-    → IsWholeSplit l path question cs → pushed ≡ waiting ++ reverse (waits_of (length path) question 0 cs) → IsPushed l nodes n path pushed
+    → IsWholeSplit l path question cs → pushed ≡ waiting ++ reverse (waits_of (length path) question 0 cs)
+    → IsPushed l nodes n path pushed
 pushed_split l nodes n at path waiting pushed question cs tree way split whole is =
     let ws = waits_of (length path) question 0 cs in
     let turned : reverse pushed ≡ ws ++ reverse waiting =
@@ -205,8 +215,10 @@ pushed_split l nodes n at path waiting pushed question cs tree way split whole i
           (children_ready l nodes at path question cs tree way.here split whole) way.ready);
     }
 
-pushed_leaf : (l : LineData) (nodes : List Node) (n at : ℕ) (path : List Decision) (waiting pushed : List Waiting) → IsTree nodes
-    → IsOnWay l nodes n at path waiting → children_of (node_at nodes at) ≡ [] → pushed ≡ waiting ++ [] → IsPushed l nodes n path pushed
+pushed_leaf : (l : LineData) (nodes : List Node) (n at : ℕ) (path : List Decision) (waiting pushed : List Waiting)
+    → IsTree nodes
+    → IsOnWay l nodes n at path waiting → children_of (node_at nodes at) ≡ [] → pushed ≡ waiting ++ []
+    → IsPushed l nodes n path pushed
 pushed_leaf l nodes n at path waiting pushed tree way none is =
     let P : List Waiting → Type 0 = λ ws. IsPushed l nodes n path ws in
     let name : Waiting → ℕ = λ w. w.node in
@@ -218,7 +230,8 @@ pushed_leaf l nodes n at path waiting pushed tree way none is =
 
 -- the next node is taken
 pub way_on : (l : LineData) (nodes : List Node) (n : ℕ) (path : List Decision) (pushed popped : List Waiting) (w : Waiting) (next : List Decision)
-    → IsPushed l nodes n path pushed → pushed ≡ popped ++ w ∷ [] → next ≡ path_of path w → IsOnWay l nodes (n + 1) w.node next popped
+    → IsPushed l nodes n path pushed → pushed ≡ popped ++ w ∷ [] → next ≡ path_of path w
+    → IsOnWay l nodes (n + 1) w.node next popped
 way_on l nodes n path pushed popped w next p e is =
     let turned : reverse pushed ≡ w ∷ reverse popped = ap (λ (xs : List Waiting). reverse xs) e ∙ reverse-append popped (w ∷ []) in
     let A : List Waiting → Type 0 = λ xs. AreReady l nodes path xs in
@@ -233,7 +246,8 @@ way_on l nodes n path pushed popped w next p e is =
     }
 
 -- no node waits: the tree proves the bound
-pub way_ends : (l : LineData) (nodes : List Node) (bound n : ℕ) (path : List Decision) (pushed : List Waiting) → IsTree nodes
+pub way_ends : (l : LineData) (nodes : List Node) (bound n : ℕ) (path : List Decision) (pushed : List Waiting)
+    → IsTree nodes
     → IsPushed l nodes n path pushed → pushed ≡ [] → AreShown l nodes bound (n + 1) → Proves l nodes bound
 way_ends l nodes bound n path pushed tree p none shown i q lt leads =
     let name : Waiting → ℕ = λ v. v.node in
@@ -243,7 +257,8 @@ way_ends l nodes bound n path pushed tree p none shown i q lt leads =
     shown m i q (omega (arith, there, size, length-drop (n + 1) (preorder nodes))) (record { there = there; is = is; leads = leads })
 
 -- one isn't past the last node
-pub way_within : (l : LineData) (nodes : List Node) (n at : ℕ) (path : List Decision) (waiting : List Waiting) → IsTree nodes
+pub way_within : (l : LineData) (nodes : List Node) (n at : ℕ) (path : List Decision) (waiting : List Waiting)
+    → IsTree nodes
     → IsOnWay l nodes n at path waiting → n < length nodes
 way_within l nodes n at path waiting tree way =
     omega (arith, (stands_here l nodes n at path waiting tree way).there, preorder_short nodes tree)
@@ -263,7 +278,8 @@ few_children single (Solved low) text = omega arith
 few_children single (Left low) text = omega arith
 
 -- a node's children, at what the code reads
-pushed_at : (l : LineData) (nodes : List Node) (bound n at : ℕ) (path : List Decision) (waiting pushed : List Waiting) (node : Node) → IsTree nodes
+pushed_at : (l : LineData) (nodes : List Node) (bound n at : ℕ) (path : List Decision) (waiting pushed : List Waiting) (node : Node)
+    → IsTree nodes
     → IsOnWay l nodes n at path waiting → node_at nodes at ≡ node → (IsTrue (is_split node) → Shows l path node bound)
     → pushed ≡ waiting ++ reverse (waits_below (length path) node) → IsPushed l nodes n path pushed
 pushed_at l nodes bound n at path waiting pushed (Split question cs) tree way e shows is =

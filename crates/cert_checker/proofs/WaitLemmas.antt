@@ -9,7 +9,8 @@ use Rattle.cert_checker.specs.Waiting.{waits_of}
 abbrev pub wait : ℕ → Question → ℕ → ℕ → Waiting
 wait above question m c = record { node = c; above = above; decision = record { question = question; child = m } }
 
-pub length-waits : (above : ℕ) (question : Question) (m : ℕ) (cs : List ℕ) → length (waits_of above question m cs) ≡ length cs
+pub length-waits : (above : ℕ) (question : Question) (m : ℕ) (cs : List ℕ)
+    → length (waits_of above question m cs) ≡ length cs
 length-waits above question m [] = refl
 length-waits above question m (c ∷ cs) = ap (λ (n : ℕ). suc n) (length-waits above question (m + 1) cs)
 
@@ -22,7 +23,8 @@ get_or-waits above question m (c ∷ cs) (suc j) d lt =
     get_or-waits above question (m + 1) cs j d (omega (arith, lt)) ∙ ap (λ (n : ℕ). wait above question n (get_or cs j 0)) e
 
 -- one more of a list goes on a stack, from the last to the first
-pushed_more : {X : Type 0} (old xs stack pushed : List X) (k : ℕ) (v : X) → k < length xs → v ≡ get_or xs (length xs - 1 - k) v
+pushed_more : {X : Type 0} (old xs stack pushed : List X) (k : ℕ) (v : X) → k < length xs
+    → v ≡ get_or xs (length xs - 1 - k) v
     → stack ≡ old ++ take k (reverse xs) → pushed ≡ stack ++ v ∷ [] → pushed ≡ old ++ take (k + 1) (reverse xs)
 pushed_more {X} old xs stack pushed k v lt read was is =
     let there : k < length (reverse xs) = omega (arith, length-reverse xs) in
@@ -31,7 +33,8 @@ pushed_more {X} old xs stack pushed k v lt read was is =
     take_more (reverse xs) k v there ∙ ap (λ (x : X). take k (reverse xs) ++ x ∷ []) (sym e) in
     is ∙ ap (λ (ys : List X). ys ++ v ∷ []) was ∙ append_assoc old (take k (reverse xs)) (v ∷ []) ∙ ap (λ (ys : List X). old ++ ys) (sym more)
 
-pub waits_more : (above : ℕ) (question : Question) (cs : List ℕ) (old stack pushed : List Waiting) (k : ℕ) → k < length cs
+pub waits_more : (above : ℕ) (question : Question) (cs : List ℕ) (old stack pushed : List Waiting) (k : ℕ)
+    → k < length cs
     → stack ≡ old ++ take k (reverse (waits_of above question 0 cs))
     → pushed ≡ stack ++ wait above question (length cs - 1 - k) (get_or cs (length cs - 1 - k) 0) ∷ []
     → pushed ≡ old ++ take (k + 1) (reverse (waits_of above question 0 cs))
@@ -47,11 +50,13 @@ waits_more above question cs old stack pushed k lt was is =
     pushed_more old ws stack pushed k v (omega (arith, lt, size)) (sym read ∙ ap (λ (n : ℕ). get_or ws n v) at) was is
 
 pub waits_all : (above : ℕ) (question : Question) (cs : List ℕ) (old stack : List Waiting) (k : ℕ) → length cs ≤ k
-    → stack ≡ old ++ take k (reverse (waits_of above question 0 cs)) → stack ≡ old ++ reverse (waits_of above question 0 cs)
+    → stack ≡ old ++ take k (reverse (waits_of above question 0 cs))
+    → stack ≡ old ++ reverse (waits_of above question 0 cs)
 waits_all above question cs old stack k le was =
     let ws = waits_of above question 0 cs in
     was ∙ ap (λ (ys : List Waiting). old ++ ys) (take_all k (reverse ws) (omega (arith, le, length-reverse ws, length-waits above question 0 cs)))
 
-pub nodes-waits : (above : ℕ) (question : Question) (m : ℕ) (cs : List ℕ) → map (λ (w : Waiting). w.node) (waits_of above question m cs) ≡ cs
+pub nodes-waits : (above : ℕ) (question : Question) (m : ℕ) (cs : List ℕ)
+    → map (λ (w : Waiting). w.node) (waits_of above question m cs) ≡ cs
 nodes-waits above question m [] = refl
 nodes-waits above question m (c ∷ cs) = ap (λ (ns : List ℕ). c ∷ ns) (nodes-waits above question (m + 1) cs)

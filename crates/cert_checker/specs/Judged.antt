@@ -1,4 +1,5 @@
--- What is known of a node once it was tried: it shows that periods below the bound are refuted, or what its first flaw is.
+-- What is known of a node once it was tried: it shows that periods below the bound are refuted, or what its first flaw
+-- is.
 use Rattle.std.specs.Prelude.{◌≡◌, ℕ, ◌+◌, ◌≤◌, ℤ, pos, List, [], ◌∷◌, Option, Some, None, MatchOption, IfSome, option_map}
 use Rattle.std.specs.Option.{option_or}
 use Rattle.hoist_base.specs.LineData.{LineData}

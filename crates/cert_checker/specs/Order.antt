@@ -25,8 +25,8 @@ rule_number (reasons.Token _ _) = 7
 rule_number (reasons.Joint _ _) = 7
 rule_number (reasons.Period _ _ _ _) = 7
 
--- within a rule: left nodes go by number, faults as faults do; the nodes go by number, and the rules of one node in their
--- order, each over all constraints
+-- within a rule: left nodes go by number, faults as faults do; the nodes go by number, and the rules of one node in
+-- their order, each over all constraints
 abbrev pub place_in_rule : Reason → List ℤ
 place_in_rule reasons.TimetableMissing = []
 place_in_rule reasons.TimetableExtra = []

@@ -17,8 +17,8 @@ use Rattle.cert_checker.specs.Flaws.{HasFlaw}
 
 -- ---- the verdict and the bound
 
--- the verdict asks for another bound than the one that is claimed: the period, or one more than the greatest period of a
--- search; an open answer may claim less
+-- the verdict asks for another bound than the one that is claimed: the period, or one more than the greatest period of
+-- a search; an open answer may claim less
 abbrev pub IsWrongBound : LineData → Verdict → Option TimetableData → ℕ → ℕ → Type 0
 IsWrongBound l Optimal None seen want = ⊥
 IsWrongBound l Optimal (Some t) seen want = (want ≡ t.period) × (seen ≢ want)

@@ -10,8 +10,8 @@ use Rattle.answer_text.specs.declared.answer.Verdict.TheVariants.{Optimal, Nothi
 use Rattle.answer_text.specs.declared.answer.Answer.{Answer}
 use Rattle.cert_checker.specs.Reasons.{split_count}
 
--- an optimal answer has a timetable of its bound; one that says that there is none has no timetable, and its bound is one
--- more than the greatest period of a search; the bound of an open one is not above its period, or that number
+-- an optimal answer has a timetable of its bound; one that says that there is none has no timetable, and its bound is
+-- one more than the greatest period of a search; the bound of an open one is not above its period, or that number
 abbrev pub IsClaim : LineData → Verdict → Option TimetableData → ℕ → Type 0
 IsClaim l Optimal None bound = ⊥
 IsClaim l Optimal (Some t) bound = bound ≡ t.period

@@ -16,13 +16,15 @@ get_or-numbers_from first zero m d lt = absurd (omega arith)
 get_or-numbers_from first (suc count) zero d lt = omega arith
 get_or-numbers_from first (suc count) (suc m) d lt = omega (arith, get_or-numbers_from (first + 1) count m d (omega arith))
 
-pub numbers_from-push : (first count : ℕ) → numbers_from first (suc count) ≡ numbers_from first count ++ (first + count) ∷ []
+pub numbers_from-push : (first count : ℕ)
+    → numbers_from first (suc count) ≡ numbers_from first count ++ (first + count) ∷ []
 numbers_from-push first zero = let e : first ≡ first + 0 = omega arith in ap (λ (n : ℕ). n ∷ []) e
 numbers_from-push first (suc count) =
     let e : first + 1 + count ≡ first + suc count = omega arith in
     ap (λ (xs : List ℕ). first ∷ xs) (numbers_from-push (first + 1) count ∙ ap (λ (n : ℕ). numbers_from (first + 1) count ++ n ∷ []) e)
 
-pub numbers_from_more : (first count : ℕ) → numbers_from first (count + 1) ≡ numbers_from first count ++ (first + count) ∷ []
+pub numbers_from_more : (first count : ℕ)
+    → numbers_from first (count + 1) ≡ numbers_from first count ++ (first + count) ∷ []
 numbers_from_more first count =
     let e : count + 1 ≡ suc count = omega arith in
     ap (λ (n : ℕ). numbers_from first n) e ∙ numbers_from-push first count
@@ -45,7 +47,8 @@ pub split_is_not_left : (n : Node) (d : Decision) (children : List ℕ) → n �
 split_is_not_left n d children e h = let h' = subst IsLeft e h in h'
 
 -- the children of a node are what its list of children says
-pub child_same : (old new : List Node) (i m j : ℕ) → children_of (node_at new i) ≡ children_of (node_at old i) → IsChild new i m j → IsChild old i m j
+pub child_same : (old new : List Node) (i m j : ℕ) → children_of (node_at new i) ≡ children_of (node_at old i)
+    → IsChild new i m j → IsChild old i m j
 child_same old new i m j e h =
     let There : List ℕ → Type 0 = λ cs. m < length cs in
     let Is : List ℕ → Type 0 = λ cs. get_or cs m 0 ≡ j in
@@ -62,7 +65,9 @@ no_child nodes i m j e h =
 pub branches_there : (nodes : List Node) (i : ℕ) (d : Decision) (j : ℕ) → Branches nodes i d j → i < length nodes
 branches_there nodes i d j b =
     ⊎_elim (λ lt. lt)
-    (λ le. let e : node_at nodes i ≡ Left None = get_or_past nodes i (Left None) le in absurd (split_is_not_left (node_at nodes i) d b.children b.split (let P : Node → Type 0 = λ n. IsLeft n in subst P (sym e) tt)))
+    (λ le. let e : node_at nodes i ≡ Left None = get_or_past nodes i
+    (Left None) le in absurd (split_is_not_left (node_at nodes i) d b.children b.split
+    (let P : Node → Type 0 = λ n. IsLeft n in subst P (sym e) tt)))
     (cases_lt i (length nodes))
 
 -- the decision of a child
@@ -74,8 +79,10 @@ branch_child nodes i d j b =
     record { there = subst There e b.there; child = subst Is e b.child }
 
 -- a split branches as before where only a node that was left, and nodes behind, are new
-pub branches_kept : (old new : List Node) (n i : ℕ) (d : Decision) (j : ℕ) → IsLeft (node_at old n) → ((k : ℕ) → k ≢ n → k < length old → node_at new k ≡ node_at old k) → Branches old i d j → Branches new i d j
+pub branches_kept : (old new : List Node) (n i : ℕ) (d : Decision) (j : ℕ) → IsLeft (node_at old n)
+    → ((k : ℕ) → k ≢ n → k < length old → node_at new k ≡ node_at old k) → Branches old i d j → Branches new i d j
 branches_kept old new n i d j left same b =
     let lt = branches_there old i d j b in
-    let other : i ≢ n = λ e. split_is_not_left (node_at old i) d b.children b.split (let P : ℕ → Type 0 = λ k. IsLeft (node_at old k) in subst P (sym e) left) in
+    let other : i ≢ n = λ e. split_is_not_left (node_at old i) d b.children b.split
+    (let P : ℕ → Type 0 = λ k. IsLeft (node_at old k) in subst P (sym e) left) in
     record { children = b.children; split = same i other lt ∙ b.split; there = b.there; child = b.child }

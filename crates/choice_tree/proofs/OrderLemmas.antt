@@ -10,7 +10,8 @@ use Rattle.choice_tree.specs.Nodes.{node_at, children_of}
 use Rattle.choice_tree.specs.Trees.{IsTree, preorder_below, preorder}
 
 -- two functions that agree on every element of a list make one list of it
-pub flat_map_same : (F G : ℕ → List ℕ) (xs : List ℕ) → ((m : ℕ) → m < length xs → F (get_or xs m 0) ≡ G (get_or xs m 0)) → flat_map F xs ≡ flat_map G xs
+pub flat_map_same : (F G : ℕ → List ℕ) (xs : List ℕ) → ((m : ℕ) → m < length xs → F (get_or xs m 0) ≡ G (get_or xs m 0))
+    → flat_map F xs ≡ flat_map G xs
 flat_map_same F G [] h = refl
 flat_map_same F G (x ∷ xs) h =
     let e : F x ≡ G x = h 0 (omega arith) in
@@ -18,7 +19,8 @@ flat_map_same F G (x ∷ xs) h =
     ap (λ (ys : List ℕ). ys ++ flat_map F xs) e ∙ ap (λ (ys : List ℕ). G x ++ ys) r
 
 -- each depth that is enough gives the same order
-pub enough : (nodes : List Node) → IsTree nodes → (f g i : ℕ) → i < length nodes → length nodes ≤ f + i → length nodes ≤ g + i → preorder_below f nodes i ≡ preorder_below g nodes i
+pub enough : (nodes : List Node) → IsTree nodes → (f g i : ℕ) → i < length nodes → length nodes ≤ f + i
+    → length nodes ≤ g + i → preorder_below f nodes i ≡ preorder_below g nodes i
 enough nodes tree zero g i lt p q = absurd (omega arith)
 enough nodes tree (suc f) zero i lt p q = absurd (omega arith)
 enough nodes tree (suc f) (suc g) i lt p q =
@@ -34,7 +36,8 @@ abbrev pub below : List Node → ℕ → List ℕ
 below nodes i = preorder_below (length nodes) nodes i
 
 -- a node comes first, then all that is below its children, one child after another
-pub below_step : (nodes : List Node) → IsTree nodes → (i : ℕ) → i < length nodes → below nodes i ≡ i ∷ flat_map (below nodes) (children_of (node_at nodes i))
+pub below_step : (nodes : List Node) → IsTree nodes → (i : ℕ) → i < length nodes
+    → below nodes i ≡ i ∷ flat_map (below nodes) (children_of (node_at nodes i))
 below_step nodes tree i lt = enough nodes tree (length nodes) (suc (length nodes)) i lt (omega arith) (omega arith)
 
 all_there : (P : ℕ → Type 0) (xs : List ℕ) → ((m : ℕ) → m < length xs → P (get_or xs m 0)) → All P xs
@@ -72,7 +75,8 @@ reverse_pushed : (xs cs : List ℕ) → reverse (xs ++ reverse cs) ≡ cs ++ rev
 reverse_pushed xs cs = reverse-append xs (reverse cs) ∙ ap (λ (ys : List ℕ). ys ++ reverse xs) (reverse-reverse cs)
 
 -- the node that waits on top
-pub walked_top : (nodes : List Node) (out waiting popped : List ℕ) (i : ℕ) → IsWalked nodes out waiting → waiting ≡ popped ++ i ∷ [] → i < length nodes
+pub walked_top : (nodes : List Node) (out waiting popped : List ℕ) (i : ℕ) → IsWalked nodes out waiting
+    → waiting ≡ popped ++ i ∷ [] → i < length nodes
 walked_top nodes out waiting popped i w e =
     let P : List ℕ → Type 0 = λ xs. All (λ k. k < length nodes) xs in
     let all : P (i ∷ reverse popped) = subst P (ap (λ (xs : List ℕ). reverse xs) e ∙ reverse_push popped i) w.there in
@@ -87,7 +91,9 @@ rest_of nodes tree popped i lt =
     ∙ ap (λ (ys : List ℕ). i ∷ ys) (sym (flat_map-append (below nodes) cs (reverse popped)))
 
 -- one node is written out, and its children wait in its place
-next_of : (nodes : List Node) → IsTree nodes → (out waiting popped pushed : List ℕ) (i : ℕ) → IsWalked nodes out waiting → waiting ≡ popped ++ i ∷ [] → pushed ≡ popped ++ reverse (children_of (node_at nodes i)) → IsWalked nodes (out ++ i ∷ []) pushed
+next_of : (nodes : List Node) → IsTree nodes → (out waiting popped pushed : List ℕ) (i : ℕ) → IsWalked nodes out waiting
+    → waiting ≡ popped ++ i ∷ [] → pushed ≡ popped ++ reverse (children_of (node_at nodes i))
+    → IsWalked nodes (out ++ i ∷ []) pushed
 next_of nodes tree out waiting popped pushed i w e e' =
     let cs = children_of (node_at nodes i) in
     let lt = walked_top nodes out waiting popped i w e in
@@ -111,7 +117,9 @@ next_of nodes tree out waiting popped pushed i w e e' =
 abbrev pub left_over : List Node → List ℕ → ℕ
 left_over nodes waiting = length (flat_map (preorder_below (length nodes) nodes) (reverse waiting))
 
-falls_of : (nodes : List Node) → IsTree nodes → (out waiting popped pushed : List ℕ) (i : ℕ) → IsWalked nodes out waiting → waiting ≡ popped ++ i ∷ [] → pushed ≡ popped ++ reverse (children_of (node_at nodes i)) → left_over nodes pushed < left_over nodes waiting
+falls_of : (nodes : List Node) → IsTree nodes → (out waiting popped pushed : List ℕ) (i : ℕ)
+    → IsWalked nodes out waiting → waiting ≡ popped ++ i ∷ []
+    → pushed ≡ popped ++ reverse (children_of (node_at nodes i)) → left_over nodes pushed < left_over nodes waiting
 falls_of nodes tree out waiting popped pushed i w e e' =
     let cs = children_of (node_at nodes i) in
     let lt = walked_top nodes out waiting popped i w e in
@@ -122,30 +130,40 @@ falls_of nodes tree out waiting popped pushed i w e e' =
     omega (arith, ap (λ (xs : List ℕ). length xs) was, ap (λ (xs : List ℕ). length xs) is)
 
 -- both at what the code reads: the node i that was taken off, its children, and the list with one more number
-kids_of : (nodes : List Node) (i : ℕ) (top : Node) (popped pushed kids : List ℕ) → i < length nodes → top ≡ get_or nodes i top → kids ≡ children_of top → pushed ≡ popped ++ reverse kids → pushed ≡ popped ++ reverse (children_of (node_at nodes i))
+kids_of : (nodes : List Node) (i : ℕ) (top : Node) (popped pushed kids : List ℕ) → i < length nodes
+    → top ≡ get_or nodes i top → kids ≡ children_of top → pushed ≡ popped ++ reverse kids
+    → pushed ≡ popped ++ reverse (children_of (node_at nodes i))
 kids_of nodes i top popped pushed kids lt read is e =
     let at : top ≡ node_at nodes i = get_or_read nodes i top lt read (Left None) in
     e ∙ ap (λ (xs : List ℕ). popped ++ reverse xs) (is ∙ ap children_of at)
 
-pub walked_next : (nodes : List Node) → IsTree nodes → (out waiting popped pushed kids out' : List ℕ) (i : ℕ) (top : Node) → IsWalked nodes out waiting → waiting ≡ popped ++ i ∷ [] → top ≡ get_or nodes i top → kids ≡ children_of top → pushed ≡ popped ++ reverse kids → out' ≡ out ++ i ∷ [] → IsWalked nodes out' pushed
+pub walked_next : (nodes : List Node) → IsTree nodes
+    → (out waiting popped pushed kids out' : List ℕ) (i : ℕ) (top : Node) → IsWalked nodes out waiting
+    → waiting ≡ popped ++ i ∷ [] → top ≡ get_or nodes i top → kids ≡ children_of top → pushed ≡ popped ++ reverse kids
+    → out' ≡ out ++ i ∷ [] → IsWalked nodes out' pushed
 walked_next nodes tree out waiting popped pushed kids out' i top w e read is e' longer =
     let lt = walked_top nodes out waiting popped i w e in
     let P : List ℕ → Type 0 = λ xs. IsWalked nodes xs pushed in
     subst P (sym longer) (next_of nodes tree out waiting popped pushed i w e (kids_of nodes i top popped pushed kids lt read is e'))
 
-pub walked_falls : (nodes : List Node) → IsTree nodes → (out waiting popped pushed kids : List ℕ) (i : ℕ) (top : Node) → IsWalked nodes out waiting → waiting ≡ popped ++ i ∷ [] → top ≡ get_or nodes i top → kids ≡ children_of top → pushed ≡ popped ++ reverse kids → left_over nodes pushed < left_over nodes waiting
+pub walked_falls : (nodes : List Node) → IsTree nodes → (out waiting popped pushed kids : List ℕ) (i : ℕ) (top : Node)
+    → IsWalked nodes out waiting → waiting ≡ popped ++ i ∷ [] → top ≡ get_or nodes i top → kids ≡ children_of top
+    → pushed ≡ popped ++ reverse kids → left_over nodes pushed < left_over nodes waiting
 walked_falls nodes tree out waiting popped pushed kids i top w e read is e' =
     let lt = walked_top nodes out waiting popped i w e in
     falls_of nodes tree out waiting popped pushed i w e (kids_of nodes i top popped pushed kids lt read is e')
 
 -- one more number of a list goes on a stack, from the last to the first
-pub pushed_more : (old xs stack pushed : List ℕ) (k v : ℕ) → k < length xs → v ≡ get_or xs (length xs - 1 - k) v → stack ≡ old ++ take k (reverse xs) → pushed ≡ stack ++ v ∷ [] → pushed ≡ old ++ take (k + 1) (reverse xs)
+pub pushed_more : (old xs stack pushed : List ℕ) (k v : ℕ) → k < length xs → v ≡ get_or xs (length xs - 1 - k) v
+    → stack ≡ old ++ take k (reverse xs) → pushed ≡ stack ++ v ∷ [] → pushed ≡ old ++ take (k + 1) (reverse xs)
 pushed_more old xs stack pushed k v lt read was is =
     let there : k < length (reverse xs) = omega (arith, length-reverse xs) in
     let e : v ≡ get_or (reverse xs) k v = read ∙ sym (get_or-reverse xs k v lt) in
-    let more : take (k + 1) (reverse xs) ≡ take k (reverse xs) ++ v ∷ [] = take_more (reverse xs) k v there ∙ ap (λ (n : ℕ). take k (reverse xs) ++ n ∷ []) (sym e) in
+    let more : take (k + 1) (reverse xs) ≡ take k (reverse xs) ++ v ∷ [] = take_more (reverse xs) k v there
+    ∙ ap (λ (n : ℕ). take k (reverse xs) ++ n ∷ []) (sym e) in
     is ∙ ap (λ (ys : List ℕ). ys ++ v ∷ []) was ∙ append_assoc old (take k (reverse xs)) (v ∷ []) ∙ ap (λ (ys : List ℕ). old ++ ys) (sym more)
 
-pub pushed_all : (old xs stack : List ℕ) (count : ℕ) → count ≡ length xs → stack ≡ old ++ take count (reverse xs) → stack ≡ old ++ reverse xs
+pub pushed_all : (old xs stack : List ℕ) (count : ℕ) → count ≡ length xs → stack ≡ old ++ take count (reverse xs)
+    → stack ≡ old ++ reverse xs
 pushed_all old xs stack count e was =
     was ∙ ap (λ (ys : List ℕ). old ++ ys) (take_all count (reverse xs) (omega (arith, length-reverse xs, e)))

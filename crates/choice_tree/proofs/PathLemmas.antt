@@ -13,19 +13,25 @@ use Rattle.choice_tree.specs.Origins.{HasOrigins}
 use Rattle.choice_tree.proofs.NodeLemmas.{branch_child}
 
 -- a decision leads on to a later node
-pub branch_later : (nodes : List Node) (i : ℕ) (d : Decision) (j : ℕ) → IsTree nodes → Branches nodes i d j → (i < j) × (j < length nodes)
+pub branch_later : (nodes : List Node) (i : ℕ) (d : Decision) (j : ℕ) → IsTree nodes → Branches nodes i d j
+    → (i < j) × (j < length nodes)
 branch_later nodes i d j tree b = tree.later i d.child j (branch_child nodes i d j b)
 
 -- one step up: the decisions from the parent
-pub path_up : (nodes : List Node) (origins : List Origin) (at i : ℕ) (path longer : List Decision) (o : Origin) → IsTree nodes → HasOrigins nodes origins → 0 < at → at < length nodes → o ≡ get_or origins (at - 1) o → Leads nodes at (reverse path) i
+pub path_up : (nodes : List Node) (origins : List Origin) (at i : ℕ) (path longer : List Decision) (o : Origin)
+    → IsTree nodes → HasOrigins nodes origins → 0 < at → at < length nodes → o ≡ get_or origins (at - 1) o
+    → Leads nodes at (reverse path) i
     → longer ≡ path ++ o.decision ∷ [] → (o.parent < at) × Leads nodes o.parent (reverse longer) i
 path_up nodes origins at i path longer o tree h above there is leads grown =
     let down = h.leads (at - 1) o (omega (arith, h.count)) is in
     let e : at - 1 + 1 ≡ at = omega arith in
     let B : ℕ → Type 0 = λ k. Branches nodes o.parent o.decision k in
     let b : Branches nodes o.parent o.decision at = subst B e down in
-    let P : List Decision → Type 0 = λ ds. Leads nodes o.parent ds i in
-    ((branch_later nodes o.parent o.decision at tree b).0, subst P (sym (ap (λ (ds : List Decision). reverse ds) grown ∙ reverse-append path (o.decision ∷ []))) (at, b, leads))
+    let P : List Decision → Type 0 = λ ds. Leads nodes o.parent ds i in (
+      (branch_later nodes o.parent o.decision at tree b).0,
+      subst P
+          (sym (ap (λ (ds : List Decision). reverse ds) grown ∙ reverse-append path (o.decision ∷ []))) (at, b, leads),
+    )
 
 -- decisions that lead to a node, and one there that leads on
 pub leads_on : GoesOn
@@ -55,7 +61,8 @@ last_step_of nodes i j (d ∷ ds) (k, b, rest) =
     (λ one. inr (d ∷ one.0, one.1, one.2, ap (λ (xs : List Decision). d ∷ xs) one.3, (k, b, one.4), one.5))
     (last_step_of nodes k j ds rest)
 
-same_question : (nodes : List Node) (k k' j j' : ℕ) (d d' : Decision) → k ≡ k' → Branches nodes k d j → Branches nodes k' d' j' → d.question ≡ d'.question
+same_question : (nodes : List Node) (k k' j j' : ℕ) (d d' : Decision) → k ≡ k' → Branches nodes k d j
+    → Branches nodes k' d' j' → d.question ≡ d'.question
 same_question nodes k k' j j' d d' e b b' =
     let one : Split d.question b.children ≡ Split d'.question b'.children =
     sym b.split ∙ ap (λ (n : ℕ). node_at nodes n) e ∙ b'.split in
@@ -67,7 +74,9 @@ same_decision d d' e f =
     ap (λ (q : Question). with_question d.child q) e ∙ ap (λ (n : ℕ). with_question n d'.question) f
 
 -- of two paths to one node, where there is one path to each earlier node
-unique_step : (nodes : List Node) (i : ℕ) (p q : List Decision) → IsTree nodes → ((k : ℕ) (ds ds' : List Decision) → k < i → IsPathTo nodes k ds → IsPathTo nodes k ds' → ds ≡ ds') → IsPathTo nodes i p → IsPathTo nodes i q → p ≡ q
+unique_step : (nodes : List Node) (i : ℕ) (p q : List Decision) → IsTree nodes
+    → ((k : ℕ) (ds ds' : List Decision) → k < i → IsPathTo nodes k ds → IsPathTo nodes k ds' → ds ≡ ds')
+    → IsPathTo nodes i p → IsPathTo nodes i q → p ≡ q
 unique_step nodes i p q tree earlier lead lead' =
     ⊎_elim
     (λ none.
@@ -82,7 +91,10 @@ unique_step nodes i p q tree earlier lead lead' =
     (last_step_of nodes 0 i q lead'))
     (last_step_of nodes 0 i p lead)
   where
-    two_last : (nodes : List Node) (i : ℕ) (p q ds ds' : List Decision) (d d' : Decision) (k k' : ℕ) → IsTree nodes → ((k : ℕ) (ds ds' : List Decision) → k < i → IsPathTo nodes k ds → IsPathTo nodes k ds' → ds ≡ ds') → p ≡ ds ++ d ∷ [] → q ≡ ds' ++ d' ∷ [] → IsPathTo nodes k ds → IsPathTo nodes k' ds' → Branches nodes k d i → Branches nodes k' d' i → p ≡ q
+    two_last : (nodes : List Node) (i : ℕ) (p q ds ds' : List Decision) (d d' : Decision) (k k' : ℕ) → IsTree nodes
+        → ((k : ℕ) (ds ds' : List Decision) → k < i → IsPathTo nodes k ds → IsPathTo nodes k ds' → ds ≡ ds')
+        → p ≡ ds ++ d ∷ [] → q ≡ ds' ++ d' ∷ [] → IsPathTo nodes k ds → IsPathTo nodes k' ds' → Branches nodes k d i
+        → Branches nodes k' d' i → p ≡ q
     two_last nodes i p q ds ds' d d' k k' tree earlier e e' lead lead' b b' =
         let one = tree.one_parent k d.child k' d'.child i (branch_child nodes k d i b) (branch_child nodes k' d' i b') in
         let same : d ≡ d' = same_decision d d' (same_question nodes k k' i i d d' one.0 b b') one.1 in
@@ -90,7 +102,8 @@ unique_step nodes i p q tree earlier lead lead' =
         let rest : ds ≡ ds' = earlier k ds ds' (branch_later nodes k d i tree b).0 lead (subst P (sym one.0) lead') in
         e ∙ ap (λ (x : Decision). ds ++ x ∷ []) same ∙ ap (λ (xs : List Decision). xs ++ d' ∷ []) rest ∙ sym e'
 
-unique_below : (most : ℕ) (nodes : List Node) (i : ℕ) (p q : List Decision) → IsTree nodes → i ≤ most → IsPathTo nodes i p → IsPathTo nodes i q → p ≡ q
+unique_below : (most : ℕ) (nodes : List Node) (i : ℕ) (p q : List Decision) → IsTree nodes → i ≤ most
+    → IsPathTo nodes i p → IsPathTo nodes i q → p ≡ q
 unique_below zero nodes i p q tree le lead lead' = unique_step nodes i p q tree (λ k ds ds' lt a b. absurd (omega (arith, lt, le))) lead lead'
 unique_below (suc most) nodes i p q tree le lead lead' =
     unique_step nodes i p q tree (λ k ds ds' lt a b. unique_below most nodes k ds ds' tree (omega (arith, lt, le)) a b) lead lead'

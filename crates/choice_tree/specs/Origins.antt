@@ -8,7 +8,8 @@ use Rattle.choice_tree.specs.Nodes.{Branches}
 -- the origin of node k + 1 stands at k: the decision at its parent leads to it
 pub record HasOrigins (nodes : List Node) (origins : List Origin) : Type 0 where
   pub count : length origins + 1 ≡ length nodes
-  pub leads : (k : ℕ) (o : Origin) → k < length origins → o ≡ get_or origins k o → Branches nodes o.parent o.decision (k + 1)
+  pub leads : (k : ℕ) (o : Origin) → k < length origins → o ≡ get_or origins k o
+      → Branches nodes o.parent o.decision (k + 1)
 
 -- the origins of a split's children, in order
 pub record AreOriginsOf (origins : List Origin) (parent : ℕ) (question : Question) (children : ℕ) : Type 0 where

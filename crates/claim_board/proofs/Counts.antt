@@ -6,13 +6,15 @@ use lib.ListN.{get_elem?}
 use Rattle.claim_board.specs.declared.rule.View.{View}
 use Rattle.claim_board.specs.Tidy.{times, once_below}
 
-pub get_or-there : {A : Type 0} (l : List A) (i : ℕ) (a : A) → get_elem? l i ≡ some a → (i < length l) × (get_or l i a ≡ a)
+pub get_or-there : {A : Type 0} (l : List A) (i : ℕ) (a : A) → get_elem? l i ≡ some a
+    → (i < length l) × (get_or l i a ≡ a)
 get_or-there [] i a e = absurd (some-ne-none a (sym e))
 get_or-there (x ∷ xs) zero a e = (omega arith, some-injective x a e)
 get_or-there (x ∷ xs) (suc i) a e = let there = get_or-there xs i a e in (omega (arith, there.0), there.1)
 
 -- a sum over the views after one of them changed
-pub sum_by-moved : (f : View → ℕ) (vs : List View) (i : ℕ) (v w : View) → get_elem? vs i ≡ some v → sum_by f (set vs i w) + f v ≡ sum_by f vs + f w
+pub sum_by-moved : (f : View → ℕ) (vs : List View) (i : ℕ) (v w : View) → get_elem? vs i ≡ some v
+    → sum_by f (set vs i w) + f v ≡ sum_by f vs + f w
 sum_by-moved f vs i v w e =
     let there = get_or-there vs i v e in
     ap (λ u. sum_by f (set vs i w) + f u) (sym there.1) ∙ sum_by-set f vs i w v there.0
@@ -40,7 +42,8 @@ pub times-snoc : (x y : ℕ) (xs : List ℕ) → times x (xs ++ y ∷ []) ≡ ti
 times-snoc x y xs = sum_by-append _ xs (y ∷ []) ∙ grind arith
 
 -- one number more
-pub once_below-next : (x m n : ℕ) → m < n → once_below (min (m + 1) n) x ≡ once_below (min m n) x + (if m == x then 1 else 0)
+pub once_below-next : (x m n : ℕ) → m < n
+    → once_below (min (m + 1) n) x ≡ once_below (min m n) x + (if m == x then 1 else 0)
 once_below-next x m n h = grind arith
 
 pub once_below-full : (x m n : ℕ) → n ≤ m → once_below (min (m + 1) n) x ≡ once_below (min m n) x
@@ -54,7 +57,8 @@ pub once_below-min : (x m n : ℕ) → n < m → once_below (min m n) x ≡ once
 once_below-min x m n h = grind arith
 
 -- a sum of smaller terms is smaller
-pub sum_by-below : (f h : View → ℕ) (vs : List View) → ((k : ℕ) (v : View) → get_elem? vs k ≡ some v → f v ≤ h v) → sum_by f vs ≤ sum_by h vs
+pub sum_by-below : (f h : View → ℕ) (vs : List View) → ((k : ℕ) (v : View) → get_elem? vs k ≡ some v → f v ≤ h v)
+    → sum_by f vs ≤ sum_by h vs
 sum_by-below f h [] each = omega arith
 sum_by-below f h (v ∷ vs) each =
     omega (arith, sum_by-cons f v vs, sum_by-cons h v vs, each 0 v refl, sum_by-below f h vs (λ k u e. each (suc k) u e))

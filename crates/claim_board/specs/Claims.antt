@@ -5,9 +5,10 @@ use Rattle.claim_board.specs.declared.claim.Claim.TheVariants.{Index, Exhausted,
 use Rattle.claim_board.specs.Tidy.{times, EachOnceBelow}
 use Rattle.claim_board.specs.Seats.{BoardData, SeatData, HasAll}
 
--- Index: the number is below n, the seat hadn't drawn it before, and now it stands at the end of its list; one claim went from left to used.
--- Exhausted: the word `next` was n or more, the seat notes that and used one claim; if it has all claims, it drew each number below n exactly once.
--- Stopped: the seat notes that it read the word `stop` as set, and nothing else changed.
+-- Index: the number is below n, the seat hadn't drawn it before, and now it stands at the end of its list; one claim
+-- went from left to used. Exhausted: the word `next` was n or more, the seat notes that and used one claim; if it has
+-- all claims, it drew each number below n exactly once. Stopped: the seat notes that it read the word `stop` as set,
+-- and nothing else changed.
 abbrev pub Claimed : BoardData → SeatData → Claim → SeatData → Type 0
 Claimed board before (Index i) after =
     (i < board.n) × (times i before.list ≡ 0)

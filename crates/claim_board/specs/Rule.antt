@@ -1,4 +1,5 @@
--- The rule of the running board over its words and all views, and what each kind of step makes of a view. Source: this project's own.
+-- The rule of the running board over its words and all views, and what each kind of step makes of a view. Source: this
+-- project's own.
 use Rattle.std.specs.Prelude.{◌≡◌, ℕ, ◌+◌, ◌-◌, ◌*◌, ◌^◌, ◌<◌, ◌≤◌, true, false, ◌||◌, ◌↔◌, List, [], ◌∷◌, ◌++◌, map, length, nat_lt, sum_by, count_by, slice_index, if◌then◌else◌}
 use mathlib.Core.Option.{some}
 use lib.ListN.{get_elem?}
@@ -16,7 +17,15 @@ board_data id plan = record { id = id; n = plan.n; workers = plan.workers }
 -- what contracts see of a seat with this view
 abbrev pub seat_data : TableId → View → SeatData
 seat_data id v =
-    record { board = record { id = id; n = v.n; workers = v.workers }; list = v.list; left = v.left; used = v.used; read_stop = v.read_stop; set_stop = v.set_stop; read_end = v.read_end }
+    record {
+      board = record { id = id; n = v.n; workers = v.workers };
+      list = v.list;
+      left = v.left;
+      used = v.used;
+      read_stop = v.read_stop;
+      set_stop = v.set_stop;
+      read_end = v.read_end;
+    }
 
 -- Fewer than 2^32 jobs, and from 1 to 64 workers.
 abbrev pub IsSmall : Plan → Type 0
@@ -31,7 +40,9 @@ pub record IsEmpty (v : View) : Type 0 where
   pub set_stop : v.set_stop ≡ false
   pub read_end : v.read_end ≡ false
 
--- What each view says is so: its notes are true of the words `next` and `stop`, its list has at most as many numbers as it has used claims, only who has used a claim has set `stop`, a spent view is empty, and any other has the plan's numbers.
+-- What each view says is so: its notes are true of the words `next` and `stop`, its list has at most as many numbers as
+-- it has used claims, only who has used a claim has set `stop`, a spent view is empty, and any other has the plan's
+-- numbers.
 pub record IsSound (plan : Plan) (next stop : ℕ) (v : View) : Type 0 where
   pub read_stop : v.read_stop ≡ true → 0 < stop
   pub read_end : v.read_end ≡ true → plan.n < next
@@ -41,7 +52,9 @@ pub record IsSound (plan : Plan) (next stop : ℕ) (v : View) : Type 0 where
   pub n : v.spent ≡ false → v.n ≡ plan.n
   pub workers : v.spent ≡ false → v.workers ≡ plan.workers
 
--- The rule. Word 0 is `next` and word 1 is `stop`. The lists are tidy; `next` is the sum of all claims used, and all claims, left and used, are one more than there are jobs for each worker; `stop` isn't 0 exactly where some view has set it; and each view is sound.
+-- The rule. Word 0 is `next` and word 1 is `stop`. The lists are tidy; `next` is the sum of all claims used, and all
+-- claims, left and used, are one more than there are jobs for each worker; `stop` isn't 0 exactly where some view has
+-- set it; and each view is sound.
 pub record Rule (plan : Plan) (words : List ℕ) (views : List View) : Type 0 where
   pub two_words : words ≡ slice_index words 0 ∷ slice_index words 1 ∷ []
   pub small : IsSmall plan
@@ -49,7 +62,8 @@ pub record Rule (plan : Plan) (words : List ℕ) (views : List View) : Type 0 wh
   pub counted : sum_by (λ (v : View). v.used) views ≡ slice_index words 0
   pub all : sum_by (λ (v : View). v.left) views + sum_by (λ (v : View). v.used) views ≡ plan.workers * (plan.n + 1)
   pub stop_set : (0 < slice_index words 1) ↔ (0 < count_by (λ (v : View). v.set_stop) views)
-  pub sound : (k : ℕ) (v : View) → get_elem? views k ≡ some v → IsSound plan (slice_index words 0) (slice_index words 1) v
+  pub sound : (k : ℕ) (v : View) → get_elem? views k ≡ some v
+      → IsSound plan (slice_index words 0) (slice_index words 1) v
 
 abbrev pub Holds : Plan → State ℕ View → Type 0
 Holds plan s = Rule plan s.words s.views
@@ -57,7 +71,18 @@ Holds plan s = Rule plan s.words s.views
 -- make: one view, with all claims left
 abbrev pub first_view : Plan → View
 first_view plan =
-    record { n = plan.n; workers = plan.workers; list = []; left = plan.workers * (plan.n + 1); used = 0; read_stop = false; set_stop = false; read_end = false; share = 0; spent = false }
+    record {
+      n = plan.n;
+      workers = plan.workers;
+      list = [];
+      left = plan.workers * (plan.n + 1);
+      used = 0;
+      read_stop = false;
+      set_stop = false;
+      read_end = false;
+      share = 0;
+      spent = false;
+    }
 
 -- A seat with every claim of the board that has read `next` as n or more has each number below n exactly once.
 abbrev pub Whole : View → Type 0
@@ -73,7 +98,8 @@ noted_stop v found = if nat_lt 0 found then view_read_stop v else v
 abbrev pub LoadedStop : Step ℕ → Me ℕ View → ℕ → Me ℕ View → Type 0
 LoadedStop step before found after = (after.0 ≡ noted_stop before.0 found) × (after.1 ≡ before.1)
 
--- claim: one left less and one used more; the old word joins the list where it is below n, else the view notes that it read n or more
+-- claim: one left less and one used more; the old word joins the list where it is below n, else the view notes that it
+-- read n or more
 abbrev pub view_drew : View → ℕ → View
 view_drew v i = record v { list = v.list ++ i ∷ []; left = v.left - 1; used = v.used + 1 }
 
@@ -108,12 +134,30 @@ kept_part v = record v { left = v.left - v.share }
 
 abbrev pub given_part : View → View
 given_part v =
-    record { n = v.n; workers = v.workers; list = []; left = v.share; used = 0; read_stop = false; set_stop = false; read_end = false; share = 0; spent = false }
+    record {
+      n = v.n;
+      workers = v.workers;
+      list = [];
+      left = v.share;
+      used = 0;
+      read_stop = false;
+      set_stop = false;
+      read_end = false;
+      share = 0;
+      spent = false;
+    }
 
 -- join: list, left, used and notes go to one view, and the other becomes spent
 abbrev pub joined_view : View → View → View
 joined_view v w =
-    record v { list = v.list ++ w.list; left = v.left + w.left; used = v.used + w.used; read_stop = v.read_stop || w.read_stop; set_stop = v.set_stop || w.set_stop; read_end = v.read_end || w.read_end }
+    record v {
+      list = v.list ++ w.list;
+      left = v.left + w.left;
+      used = v.used + w.used;
+      read_stop = v.read_stop || w.read_stop;
+      set_stop = v.set_stop || w.set_stop;
+      read_end = v.read_end || w.read_end;
+    }
 
 abbrev pub spent_view : View
 spent_view =

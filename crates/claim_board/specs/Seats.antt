@@ -8,7 +8,8 @@ pub record BoardData : Type 0 where
   pub n : ℕ
   pub workers : ℕ
 
--- A seat: its board, the numbers that it drew, in this order, its claims left and used, and three notes: it has read the word `stop` as set, it has set that word, and it has read the word `next` as n or more at a claim.
+-- A seat: its board, the numbers that it drew, in this order, its claims left and used, and three notes: it has read
+-- the word `stop` as set, it has set that word, and it has read the word `next` as n or more at a claim.
 pub record SeatData : Type 0 where
   pub board : BoardData
   pub list : List ℕ
@@ -34,4 +35,11 @@ fresh_seat board share =
 -- the first seat after it took in the second
 abbrev pub joined_seat : SeatData → SeatData → SeatData
 joined_seat seat other =
-    record seat { list = seat.list ++ other.list; left = seat.left + other.left; used = seat.used + other.used; read_stop = seat.read_stop || other.read_stop; set_stop = seat.set_stop || other.set_stop; read_end = seat.read_end || other.read_end }
+    record seat {
+      list = seat.list ++ other.list;
+      left = seat.left + other.left;
+      used = seat.used + other.used;
+      read_stop = seat.read_stop || other.read_stop;
+      set_stop = seat.set_stop || other.set_stop;
+      read_end = seat.read_end || other.read_end;
+    }

@@ -24,24 +24,29 @@ by_false : {X : Type 0} (b : Bool) (x y : X) → b ≡ false → cond b x y ≡ 
 by_false b x y e = ap (λ (t : Bool). cond t x y) e
 
 -- on one hoist
-pub clash_once : (l : LineData) (a : Motion) (ha : ℕ) (b : Motion) (hb : ℕ) → ha ≡ hb → clash_of l a ha b hb ≡ Some (once_span a b)
+pub clash_once : (l : LineData) (a : Motion) (ha : ℕ) (b : Motion) (hb : ℕ) → ha ≡ hb
+    → clash_of l a ha b hb ≡ Some (once_span a b)
 unfolding clash_of
 clash_once l a ha b hb e = by_true _ _ _ (eq-eqb ha hb e)
 
 -- the first motion on the lower hoist
-pub clash_above : (l : LineData) (a : Motion) (ha : ℕ) (b : Motion) (hb : ℕ) → ha < hb → clash_of l a ha b hb ≡ around_all ((hb - ha) * l.gap) (corners a) (corners b)
+pub clash_above : (l : LineData) (a : Motion) (ha : ℕ) (b : Motion) (hb : ℕ) → ha < hb
+    → clash_of l a ha b hb ≡ around_all ((hb - ha) * l.gap) (corners a) (corners b)
 unfolding clash_of
 clash_above l a ha b hb lt = by_false _ _ _ (ne_eqb ha hb (λ e. omega (arith, e))) ∙ by_true _ _ _ (lt-ltb ha hb lt)
 
 -- the first motion on the upper hoist
-pub clash_below : (l : LineData) (a : Motion) (ha : ℕ) (b : Motion) (hb : ℕ) → hb < ha → clash_of l a ha b hb ≡ turned_answer (around_all ((ha - hb) * l.gap) (corners b) (corners a))
+pub clash_below : (l : LineData) (a : Motion) (ha : ℕ) (b : Motion) (hb : ℕ) → hb < ha
+    → clash_of l a ha b hb ≡ turned_answer (around_all ((ha - hb) * l.gap) (corners b) (corners a))
 unfolding clash_of
 clash_below l a ha b hb lt = by_false _ _ _ (ne_eqb ha hb (λ e. omega (arith, e))) ∙ by_false _ _ _ (le-ltb ha hb (omega arith))
 
 -- what the corners forbid is what all ticks forbid
-box_hull : (a b : Motion) (room : ℕ) → IsHullOf (λ u. place a u + room) (place b) (InBox (duration a) (duration b)) (around_all room (corners a) (corners b))
+box_hull : (a b : Motion) (room : ℕ)
+    → IsHullOf (λ u. place a u + room) (place b) (InBox (duration a) (duration b)) (around_all room (corners a) (corners b))
 box_hull a b room =
-    hull_spreads (λ u. place a u + room) (place b) (IsTickOf (corners a)) (IsTickOf (corners b)) (duration a) (duration b) (around_all room (corners a) (corners b))
+    hull_spreads (λ u. place a u + room) (place b) (IsTickOf (corners a)) (IsTickOf (corners b)) (duration a)
+    (duration b) (around_all room (corners a) (corners b))
     (corners_within a) (corners_within b)
     (late_top a room) (early_top a room) (early_bottom b) (late_bottom b)
     (all_hull (place a) (place b) room (corners a) (corners b) (corners_lie_on a) (corners_lie_on b))
@@ -84,7 +89,8 @@ small_room l h k line p q =
     let few : k - h ≤ 5 = omega (arith, line.limits.hoists.1) in
     omega (arith, mul-le (k - h) l.gap 5 l.gap few (omega arith), line.limits.gap.1)
 
-tight_near : (a b : Motion) (room : ℕ) → IsMotion a → IsMotion b → room ≤ 500 → IfSome (around_all room (corners a) (corners b)) IsTight
+tight_near : (a b : Motion) (room : ℕ) → IsMotion a → IsMotion b → room ≤ 500
+    → IfSome (around_all room (corners a) (corners b)) IsTight
 tight_near a b room p q small =
     tight_hull (λ u. place a u + room) (place b) (duration a) (duration b) (around_all room (corners a) (corners b))
     (lasts a p).1 (lasts b q).1 (λ u. omega (arith, stays_low a u p)) (λ v. stays_low b v q) (box_hull a b room)

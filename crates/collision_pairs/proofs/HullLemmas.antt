@@ -34,13 +34,17 @@ abbrev pub IsHullOf : (ℕ → ℕ) → (ℕ → ℕ) → (ℕ → ℕ → Type 
 IsHullOf A B Seen None = (u v : ℕ) → Seen u v → A u ≤ B v
 IsHullOf A B Seen (Some s) = IsHull A B Seen s.after s.before
 
-after_wider : (A B : ℕ → ℕ) (S U : ℕ → ℕ → Type 0) (a c : ℤ) → ((u v : ℕ) → S u v → U u v) → a ≡ c → HasAfter A B S a → HasAfter A B U c
+after_wider : (A B : ℕ → ℕ) (S U : ℕ → ℕ → Type 0) (a c : ℤ) → ((u v : ℕ) → S u v → U u v) → a ≡ c → HasAfter A B S a
+    → HasAfter A B U c
 after_wider A B S U a c wider e h = record { u = h.u; v = h.v; seen = wider h.u h.v h.seen; above = h.above; is = omega (arith, ints) }
 
-before_wider : (A B : ℕ → ℕ) (S U : ℕ → ℕ → Type 0) (a c : ℤ) → ((u v : ℕ) → S u v → U u v) → a ≡ c → HasBefore A B S a → HasBefore A B U c
+before_wider : (A B : ℕ → ℕ) (S U : ℕ → ℕ → Type 0) (a c : ℤ) → ((u v : ℕ) → S u v → U u v) → a ≡ c → HasBefore A B S a
+    → HasBefore A B U c
 before_wider A B S U a c wider e h = record { u = h.u; v = h.v; seen = wider h.u h.v h.seen; above = h.above; is = omega (arith, ints) }
 
-pub hull_join : (A B : ℕ → ℕ) (S T U : ℕ → ℕ → Type 0) (x y : Option Span) → IsHullOf A B S x → IsHullOf A B T y → ((u v : ℕ) → S u v → U u v) → ((u v : ℕ) → T u v → U u v) → ((u v : ℕ) → U u v → S u v ⊎ T u v) → IsHullOf A B U (joined x y)
+pub hull_join : (A B : ℕ → ℕ) (S T U : ℕ → ℕ → Type 0) (x y : Option Span) → IsHullOf A B S x → IsHullOf A B T y
+    → ((u v : ℕ) → S u v → U u v) → ((u v : ℕ) → T u v → U u v) → ((u v : ℕ) → U u v → S u v ⊎ T u v)
+    → IsHullOf A B U (joined x y)
 hull_join A B S T U None None h k s t parts = λ u v w. ⊎_elim (λ p. h u v p) (λ q. k u v q) (parts u v w)
 hull_join A B S T U None (Some y) h k s t parts = record {
   has_after = after_wider A B T U y.after y.after t (omega (arith, ints)) k.has_after;
@@ -63,8 +67,10 @@ hull_join A B S T U (Some x) (Some y) h k s t parts = record {
       by_lt_z x.before y.before
       (λ lt. before_wider A B T U y.before (int_max x.before y.before) t (omega (arith, ints, clamps)) k.has_before)
       (λ le. before_wider A B S U x.before (int_max x.before y.before) s (omega (arith, ints, clamps)) h.has_before);
-  after_most = λ u v w above. ⊎_elim (λ p. omega (arith, ints, clamps, h.after_most u v p above)) (λ q. omega (arith, ints, clamps, k.after_most u v q above)) (parts u v w);
-  before_most = λ u v w above. ⊎_elim (λ p. omega (arith, ints, clamps, h.before_most u v p above)) (λ q. omega (arith, ints, clamps, k.before_most u v q above)) (parts u v w);
+  after_most = λ u v w above. ⊎_elim (λ p. omega (arith, ints, clamps, h.after_most u v p above))
+      (λ q. omega (arith, ints, clamps, k.after_most u v q above)) (parts u v w);
+  before_most = λ u v w above. ⊎_elim (λ p. omega (arith, ints, clamps, h.before_most u v p above))
+      (λ q. omega (arith, ints, clamps, k.before_most u v q above)) (parts u v w);
 }
 
 -- the least span round what one pair forbids
@@ -98,7 +104,9 @@ abbrev pub HasLateBottom : (ℕ → ℕ) → (ℕ → Type 0) → ℕ → Type 0
 HasLateBottom B T d = (v : ℕ) → v ≤ d → (c : ℕ) × T c × (B c ≤ B v) × (v + B c ≤ c + B v)
 
 -- then the span round what was seen is the span round all pairs of ticks
-pub hull_spreads : (A B : ℕ → ℕ) (S T : ℕ → Type 0) (da db : ℕ) (x : Option Span) → ((u : ℕ) → S u → u ≤ da) → ((v : ℕ) → T v → v ≤ db) → HasLateTop A S da → HasEarlyTop A S da → HasEarlyBottom B T db → HasLateBottom B T db → IsHullOf A B (λ u v. S u × T v) x → IsHullOf A B (InBox da db) x
+pub hull_spreads : (A B : ℕ → ℕ) (S T : ℕ → Type 0) (da db : ℕ) (x : Option Span) → ((u : ℕ) → S u → u ≤ da)
+    → ((v : ℕ) → T v → v ≤ db) → HasLateTop A S da → HasEarlyTop A S da → HasEarlyBottom B T db → HasLateBottom B T db
+    → IsHullOf A B (λ u v. S u × T v) x → IsHullOf A B (InBox da db) x
 hull_spreads A B S T da db None in_a in_b late_top early_top early_bottom late_bottom h = λ u v box.
     let c = late_top u box.0 in
     let e = early_bottom v box.1 in
@@ -117,7 +125,8 @@ hull_spreads A B S T da db (Some s) in_a in_b late_top early_top early_bottom la
 }
 
 -- every offset inside it is forbidden: there are no holes
-no_holes : (A B : ℕ → ℕ) (da db : ℕ) (after before o : ℤ) → Rises A ⊎ Falls A → HasNoHill B → IsHull A B (InBox da db) after before → neg_ℤ before <ℤ o → o <ℤ after → Meet A B da db o
+no_holes : (A B : ℕ → ℕ) (da db : ℕ) (after before o : ℤ) → Rises A ⊎ Falls A → HasNoHill B
+    → IsHull A B (InBox da db) after before → neg_ℤ before <ℤ o → o <ℤ after → Meet A B da db o
 no_holes A B da db after before o m hill h low high =
     let a = h.has_after in
     let b = h.has_before in
@@ -131,7 +140,8 @@ no_holes A B da db after before o m hill h low high =
     (c.0, c.1, c.2, c.3, omega (arith, ints, c.4, c.5))))
 
 -- and every forbidden offset is inside
-inside : (A B : ℕ → ℕ) (da db : ℕ) (after before o : ℤ) → IsHull A B (InBox da db) after before → Meet A B da db o → (neg_ℤ before <ℤ o) × (o <ℤ after)
+inside : (A B : ℕ → ℕ) (da db : ℕ) (after before o : ℤ) → IsHull A B (InBox da db) after before → Meet A B da db o
+    → (neg_ℤ before <ℤ o) × (o <ℤ after)
 inside A B da db after before o h (u, v, p, q, near) =
     let above : B v < A u = omega arith in
     let top = h.after_most u v (p, q) above in
@@ -139,13 +149,15 @@ inside A B da db after before o h (u, v, p, q, near) =
     (omega (arith, ints), omega (arith, ints))
 
 -- the span round all pairs of ticks is exactly the set of forbidden offsets
-pub span_of_hull : (A B : ℕ → ℕ) (da db : ℕ) (answer : Option Span) → Rises A ⊎ Falls A → HasNoHill B → IsHullOf A B (InBox da db) answer → IsSpanOf answer (Meet A B da db)
+pub span_of_hull : (A B : ℕ → ℕ) (da db : ℕ) (answer : Option Span) → Rises A ⊎ Falls A → HasNoHill B
+    → IsHullOf A B (InBox da db) answer → IsSpanOf answer (Meet A B da db)
 span_of_hull A B da db None m hill h = λ o (u, v, p, q, near). let under : A u ≤ B v = h u v (p, q) in omega arith
 span_of_hull A B da db (Some s) m hill h =
     λ o. (λ meet. inside A B da db s.after s.before o h meet, λ w. no_holes A B da db s.after s.before o m hill h w.0 w.1)
 
 -- its ends are small where ticks and heights are, and it holds an offset
-pub tight_hull : (A B : ℕ → ℕ) (da db : ℕ) (answer : Option Span) → da ≤ 2000 → db ≤ 2000 → ((u : ℕ) → A u ≤ 1500) → ((v : ℕ) → B v ≤ 1000) → IsHullOf A B (InBox da db) answer → IfSome answer IsTight
+pub tight_hull : (A B : ℕ → ℕ) (da db : ℕ) (answer : Option Span) → da ≤ 2000 → db ≤ 2000 → ((u : ℕ) → A u ≤ 1500)
+    → ((v : ℕ) → B v ≤ 1000) → IsHullOf A B (InBox da db) answer → IfSome answer IsTight
 tight_hull A B da db None p q low high h = tt
 tight_hull A B da db (Some s) p q low high h =
     let a = h.has_after in

@@ -29,7 +29,8 @@ goes_one_way_itself m =
     (λ f. inr (λ u w p. let e = f u w p in omega (arith, e)))
     (goes_one_way m 0)
 
-towards_slow : (a b s t : ℕ) → s ≤ t → (towards a b t ≤ towards a b s + (t - s)) × (towards a b s ≤ towards a b t + (t - s))
+towards_slow : (a b s t : ℕ) → s ≤ t
+    → (towards a b t ≤ towards a b s + (t - s)) × (towards a b s ≤ towards a b t + (t - s))
 towards_slow a b s t p = (omega arith, omega arith)
 
 -- at most one unit a tick
@@ -57,7 +58,8 @@ corners_lie_on m = (omega arith, (omega arith, (omega arith, (omega arith, tt)))
 
 pub corners_within : (m : Motion) (u : ℕ) → IsTickOf (corners m) u → u ≤ duration m
 corners_within m u h =
-    ⊎_elim (λ e. omega (arith, e)) (λ r. ⊎_elim (λ e. omega (arith, e)) (λ s. ⊎_elim (λ e. omega (arith, e)) (λ t. ⊎_elim (λ e. omega (arith, e)) (λ n. absurd n) t) s) r) h
+    ⊎_elim (λ e. omega (arith, e)) (λ r. ⊎_elim (λ e. omega (arith, e))
+    (λ s. ⊎_elim (λ e. omega (arith, e)) (λ t. ⊎_elim (λ e. omega (arith, e)) (λ n. absurd n) t) s) r) h
 
 at_lift : (m : Motion) → IsTickOf (corners m) m.lift
 at_lift m = inr (inl refl)

@@ -25,7 +25,8 @@ Meet A B da db o = (u : ℕ) × (v : ℕ) × (u ≤ da) × (v ≤ db) × (B v + 
 abbrev pub Centre : (ℕ → ℕ) → (ℕ → ℕ) → ℕ → ℕ → ℤ → Type 0
 Centre A B da db o = (u : ℕ) × (v : ℕ) × (u ≤ da) × (v ≤ db) × (o +ℤ pos v ≡ pos u) × (B v < A u)
 
-centre_rises : (A B : ℕ → ℕ) (da db u1 v1 u2 v2 : ℕ) (o : ℤ) → Rises A → HasNoHill B → u1 ≤ da → v1 ≤ db → u2 ≤ da → v2 ≤ db → B v1 < A u1 → B v2 < A u2 → pos u1 ≤ℤ (o +ℤ pos v1) → (o +ℤ pos v2) ≤ℤ pos u2 → Centre A B da db o
+centre_rises : (A B : ℕ → ℕ) (da db u1 v1 u2 v2 : ℕ) (o : ℤ) → Rises A → HasNoHill B → u1 ≤ da → v1 ≤ db → u2 ≤ da
+    → v2 ≤ db → B v1 < A u1 → B v2 < A u2 → pos u1 ≤ℤ (o +ℤ pos v1) → (o +ℤ pos v2) ≤ℤ pos u2 → Centre A B da db o
 centre_rises A B da db u1 v1 u2 v2 o rises hill a1 b1 a2 b2 p1 p2 from to =
     by_lt_z (pos da) (o +ℤ pos v1)
     (λ far.
@@ -37,20 +38,36 @@ centre_rises A B da db u1 v1 u2 v2 o rises hill a1 b1 a2 b2 p1 p2 from to =
     let e : o +ℤ pos v1 ≡ pos u = omega (arith, ints) in
     (u, v1, omega (arith, ints), b1, e, omega (arith, ints, rises u1 u (omega (arith, ints)))))
 
-centre_falls : (A B : ℕ → ℕ) (da db u1 v1 u2 v2 : ℕ) (o : ℤ) → Falls A → HasNoHill B → u1 ≤ da → v1 ≤ db → u2 ≤ da → v2 ≤ db → B v1 < A u1 → B v2 < A u2 → pos u1 ≤ℤ (o +ℤ pos v1) → (o +ℤ pos v2) ≤ℤ pos u2 → Centre A B da db o
+centre_falls : (A B : ℕ → ℕ) (da db u1 v1 u2 v2 : ℕ) (o : ℤ) → Falls A → HasNoHill B → u1 ≤ da → v1 ≤ db → u2 ≤ da
+    → v2 ≤ db → B v1 < A u1 → B v2 < A u2 → pos u1 ≤ℤ (o +ℤ pos v1) → (o +ℤ pos v2) ≤ℤ pos u2 → Centre A B da db o
 centre_falls A B da db u1 v1 u2 v2 o falls hill a1 b1 a2 b2 p1 p2 from to =
     by_lt_z (o +ℤ pos v2) (pos 0)
     (λ far.
     let v : ℕ = unsigned_abs o in
-    let e : o +ℤ pos v ≡ pos 0 = omega (arith, ints) in
-    (0, v, omega arith, omega (arith, ints), e, omega (arith, ints, hill v2 v v1 (omega (arith, ints)) (omega (arith, ints)), falls 0 u1 (omega arith), falls 0 u2 (omega arith))))
+    let e : o +ℤ pos v ≡ pos 0 = omega (arith, ints) in (
+      0,
+      v,
+      omega arith,
+      omega (arith, ints),
+      e,
+      omega (
+        arith,
+        ints,
+        hill v2 v v1 (omega (arith, ints)) (omega (arith, ints)),
+        falls 0 u1 (omega arith),
+        falls 0 u2 (omega arith),
+      ),
+    ))
     (λ near.
     let u : ℕ = unsigned_abs (o +ℤ pos v2) in
     let e : o +ℤ pos v2 ≡ pos u = omega (arith, ints) in
     (u, v2, omega (arith, ints), b2, e, omega (arith, ints, falls u u2 (omega (arith, ints)))))
 
--- between the offsets of two such pairs of ticks there is a pair for every offset: along the first motion, and then along the second
-pub centre : (A B : ℕ → ℕ) (da db u1 v1 u2 v2 : ℕ) (o : ℤ) → Rises A ⊎ Falls A → HasNoHill B → u1 ≤ da → v1 ≤ db → u2 ≤ da → v2 ≤ db → B v1 < A u1 → B v2 < A u2 → pos u1 ≤ℤ (o +ℤ pos v1) → (o +ℤ pos v2) ≤ℤ pos u2 → Centre A B da db o
+-- between the offsets of two such pairs of ticks there is a pair for every offset: along the first motion, and then
+-- along the second
+pub centre : (A B : ℕ → ℕ) (da db u1 v1 u2 v2 : ℕ) (o : ℤ) → Rises A ⊎ Falls A → HasNoHill B → u1 ≤ da → v1 ≤ db
+    → u2 ≤ da → v2 ≤ db → B v1 < A u1 → B v2 < A u2 → pos u1 ≤ℤ (o +ℤ pos v1) → (o +ℤ pos v2) ≤ℤ pos u2
+    → Centre A B da db o
 centre A B da db u1 v1 u2 v2 o m hill a1 b1 a2 b2 p1 p2 from to =
     ⊎_elim (λ r. centre_rises A B da db u1 v1 u2 v2 o r hill a1 b1 a2 b2 p1 p2 from to)
     (λ f. centre_falls A B da db u1 v1 u2 v2 o f hill a1 b1 a2 b2 p1 p2 from to)
@@ -66,7 +83,8 @@ Once A B da db o =
     ((u : ℕ) × (v : ℕ) × (u < da) × (v < db) × (o +ℤ pos v ≡ pos u))
     ⊎ ((u : ℕ) × (v : ℕ) × (u ≤ da) × (v ≤ db) × (unsigned_abs (o +ℤ pos v -ℤ pos u) < abs_diff (A u) (B v)))
 
-once_inside : (A B : ℕ → ℕ) (da db : ℕ) (o : ℤ) → IsSlow A → IsSlow B → Once A B da db o → (neg_ℤ (pos (db + abs_diff (A 0) (B db))) <ℤ o) × (o <ℤ pos (da + abs_diff (B 0) (A da)))
+once_inside : (A B : ℕ → ℕ) (da db : ℕ) (o : ℤ) → IsSlow A → IsSlow B → Once A B da db o
+    → (neg_ℤ (pos (db + abs_diff (A 0) (B db))) <ℤ o) × (o <ℤ pos (da + abs_diff (B 0) (A da)))
 once_inside A B da db o slow_a slow_b once =
     ⊎_elim
     (λ c. (omega (arith, ints, c.2, c.3, c.4), omega (arith, ints, c.2, c.3, c.4)))
@@ -80,7 +98,8 @@ once_inside A B da db o slow_a slow_b once =
     (omega (arith, ints, c.4, p, q, r, s), omega (arith, ints, c.4, p, q, r, s)))
     once
 
-once_all : (A B : ℕ → ℕ) (da db : ℕ) (o : ℤ) → 0 < da → 0 < db → neg_ℤ (pos (db + abs_diff (A 0) (B db))) <ℤ o → o <ℤ pos (da + abs_diff (B 0) (A da)) → Once A B da db o
+once_all : (A B : ℕ → ℕ) (da db : ℕ) (o : ℤ) → 0 < da → 0 < db → neg_ℤ (pos (db + abs_diff (A 0) (B db))) <ℤ o
+    → o <ℤ pos (da + abs_diff (B 0) (A da)) → Once A B da db o
 once_all A B da db o a_lasts b_lasts low high =
     by_lt_z o (pos 0)
     (λ neg.
@@ -95,7 +114,9 @@ once_all A B da db o a_lasts b_lasts low high =
     (λ past. inr (da, 0, omega arith, omega arith, omega (arith, ints))))
 
 -- the offsets of one hoist's two motions, with names for the four ends
-pub once_between : (A B : ℕ → ℕ) (da db a0 a1 b0 b1 : ℕ) (after before o : ℤ) → IsSlow A → IsSlow B → 0 < da → 0 < db → A 0 ≡ a0 → A da ≡ a1 → B 0 ≡ b0 → B db ≡ b1 → after ≡ pos (da + abs_diff b0 a1) → before ≡ pos (db + abs_diff a0 b1) → Once A B da db o ↔ ((neg_ℤ before <ℤ o) × (o <ℤ after))
+pub once_between : (A B : ℕ → ℕ) (da db a0 a1 b0 b1 : ℕ) (after before o : ℤ) → IsSlow A → IsSlow B → 0 < da → 0 < db
+    → A 0 ≡ a0 → A da ≡ a1 → B 0 ≡ b0 → B db ≡ b1 → after ≡ pos (da + abs_diff b0 a1)
+    → before ≡ pos (db + abs_diff a0 b1) → Once A B da db o ↔ ((neg_ℤ before <ℤ o) × (o <ℤ after))
 once_between A B da db a0 a1 b0 b1 after before o slow_a slow_b p q e f g h i j = (
   λ once. let k = once_inside A B da db o slow_a slow_b once in (omega (arith, ints, k.0), omega (arith, ints, k.1)),
   λ k. once_all A B da db o p q (omega (arith, ints, k.0)) (omega (arith, ints, k.1)),

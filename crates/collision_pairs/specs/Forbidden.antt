@@ -18,7 +18,8 @@ abbrev pub ComeTooNear : Motion → Motion → ℕ → ℤ → Type 0
 ComeTooNear a b room o =
     (u : ℕ) × (v : ℕ) × (u ≤ duration a) × (v ≤ duration b) × (place b v + ticks_between o u v < place a u + room)
 
--- one hoist follows both: it carries by both at one tick, or can't get from some point of one to some point of the other
+-- one hoist follows both: it carries by both at one tick, or can't get from some point of one to some point of the
+-- other
 abbrev pub AreAtOnce : Motion → Motion → ℤ → Type 0
 AreAtOnce a b o =
     ((u : ℕ) × (v : ℕ) × (u < duration a) × (v < duration b) × (o +ℤ pos v ≡ pos u))

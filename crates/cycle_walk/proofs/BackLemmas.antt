@@ -8,7 +8,8 @@ use Rattle.cycle_walk.specs.Closed.{first_fit, node_back, arc_back, back_to, IsL
 use Rattle.cycle_walk.specs.Trail.{IsTrail}
 use Rattle.cycle_walk.proofs.TrailLemmas.{node_below, step_at}
 
--- after t steps back the node is j, and the constraints of the steps stand first; seen tells at which step each node came, or the number of nodes
+-- after t steps back the node is j, and the constraints of the steps stand first; seen tells at which step each node
+-- came, or the number of nodes
 pub record IsWayBack (s : SystemData) (period start t j : ℕ) (arcs seen : List ℕ) : Type 0 where
   pub count : length arcs ≡ s.nodes
   pub within : t ≤ s.nodes
@@ -16,10 +17,13 @@ pub record IsWayBack (s : SystemData) (period start t j : ℕ) (arcs seen : List
   pub is : (x : ℕ) → x < t → get_or arcs x 0 ≡ arc_back s (weights_at s period) start x
   pub size : length seen ≡ s.nodes
   pub told : (x : ℕ) → x < t → get_or seen (node_back s (weights_at s period) start x) 0 ≡ x
-  pub tells : (v : ℕ) → v < s.nodes → (get_or seen v 0 ≡ s.nodes) ⊎ ((get_or seen v 0 < t) × (node_back s (weights_at s period) start (get_or seen v 0) ≡ v))
+  pub tells : (v : ℕ) → v < s.nodes
+      → (get_or seen v 0 ≡ s.nodes) ⊎ ((get_or seen v 0 < t) × (node_back s (weights_at s period) start (get_or seen v 0) ≡ v))
 
 -- the nodes so far are different
-pub once_so_far : (s : SystemData) (period start t j : ℕ) (arcs seen : List ℕ) → IsWayBack s period start t j arcs seen → (x y : ℕ) → x < y → y < t → node_back s (weights_at s period) start x ≡ node_back s (weights_at s period) start y → ⊥
+pub once_so_far : (s : SystemData) (period start t j : ℕ) (arcs seen : List ℕ) → IsWayBack s period start t j arcs seen
+    → (x y : ℕ) → x < y → y < t → node_back s (weights_at s period) start x ≡ node_back s (weights_at s period) start y
+    → ⊥
 once_so_far s period start t j arcs seen h x y lt in_t e =
     let a = h.told x (omega (arith, lt, in_t)) in
     let b = h.told y in_t in
@@ -27,14 +31,17 @@ once_so_far s period start t j arcs seen h x y lt in_t e =
     omega (arith, a, b, c, lt)
 
 -- a node that isn't told of is new
-pub is_new : (s : SystemData) (period start t j : ℕ) (arcs seen : List ℕ) → IsWayBack s period start t j arcs seen → get_or seen j 0 ≡ s.nodes → (x : ℕ) → x < t → node_back s (weights_at s period) start x ≡ j → ⊥
+pub is_new : (s : SystemData) (period start t j : ℕ) (arcs seen : List ℕ) → IsWayBack s period start t j arcs seen
+    → get_or seen j 0 ≡ s.nodes → (x : ℕ) → x < t → node_back s (weights_at s period) start x ≡ j → ⊥
 is_new s period start t j arcs seen h unseen x lt e =
     let a = h.told x lt in
     let c = ap (λ v. get_or seen v 0) e in
     omega (arith, a, c, unseen, lt, h.within)
 
 -- so there are steps left
-pub steps_left : (s : SystemData) (period start t j : ℕ) (arcs seen : List ℕ) → IsSystem s → start < s.nodes → Rises s (weights_at s period) start → IsWayBack s period start t j arcs seen → get_or seen j 0 ≡ s.nodes → t < s.nodes
+pub steps_left : (s : SystemData) (period start t j : ℕ) (arcs seen : List ℕ) → IsSystem s → start < s.nodes
+    → Rises s (weights_at s period) start → IsWayBack s period start t j arcs seen → get_or seen j 0 ≡ s.nodes
+    → t < s.nodes
 steps_left s period start t j arcs seen valid p rises h unseen =
     ⊎_elim (λ lt. lt)
     (λ ge.
@@ -48,7 +55,10 @@ steps_left s period start t j arcs seen valid p rises h unseen =
     (cases_lt t s.nodes)
 
 -- one step more
-pub way_more : (s : SystemData) (period start t j k : ℕ) (arcs seen : List ℕ) → IsSystem s → start < s.nodes → Rises s (weights_at s period) start → IsWayBack s period start t j arcs seen → get_or seen j 0 ≡ s.nodes → k ≡ arc_back s (weights_at s period) start t → IsWayBack s period start (t + 1) (arc s k).from (set arcs t k) (set seen j t)
+pub way_more : (s : SystemData) (period start t j k : ℕ) (arcs seen : List ℕ) → IsSystem s → start < s.nodes
+    → Rises s (weights_at s period) start → IsWayBack s period start t j arcs seen → get_or seen j 0 ≡ s.nodes
+    → k ≡ arc_back s (weights_at s period) start t
+    → IsWayBack s period start (t + 1) (arc s k).from (set arcs t k) (set seen j t)
 way_more s period start t j k arcs seen valid p rises h unseen is_k =
     let wt = weights_at s period in
     let f = node_back s wt start in
@@ -88,7 +98,9 @@ way_more s period start t j k arcs seen valid p rises h unseen is_k =
     }
 
 -- a node that is told of ends it
-pub way_ends : (s : SystemData) (period start t j : ℕ) (arcs seen : List ℕ) → IsSystem s → start < s.nodes → Rises s (weights_at s period) start → IsWayBack s period start t j arcs seen → (get_or seen j 0 ≡ s.nodes → ⊥) → IsTrail s period start arcs (get_or seen j 0) t
+pub way_ends : (s : SystemData) (period start t j : ℕ) (arcs seen : List ℕ) → IsSystem s → start < s.nodes
+    → Rises s (weights_at s period) start → IsWayBack s period start t j arcs seen → (get_or seen j 0 ≡ s.nodes → ⊥)
+    → IsTrail s period start arcs (get_or seen j 0) t
 way_ends s period start t j arcs seen valid p rises h told =
     let wt = weights_at s period in
     let f = node_back s wt start in
@@ -110,12 +122,16 @@ way_ends s period start t j arcs seen valid p rises h told =
     })
     (h.tells j j_in)
 
-pub j_below : (s : SystemData) (period start t j : ℕ) (arcs seen : List ℕ) → IsSystem s → start < s.nodes → Rises s (weights_at s period) start → IsWayBack s period start t j arcs seen → j < s.nodes
+pub j_below : (s : SystemData) (period start t j : ℕ) (arcs seen : List ℕ) → IsSystem s → start < s.nodes
+    → Rises s (weights_at s period) start → IsWayBack s period start t j arcs seen → j < s.nodes
 j_below s period start t j arcs seen valid p rises h =
     omega (arith, h.node, node_below s (weights_at s period) start t valid p rises h.within)
 
 -- what the next step back takes
-pub arc_at : (s : SystemData) (period start t j n k l : ℕ) (arcs seen : List ℕ) → IsSystem s → start < s.nodes → Rises s (weights_at s period) start → IsWayBack s period start t j arcs seen → get_or seen j 0 ≡ s.nodes → n ≡ s.nodes → l ≡ n - 1 - t → k ≡ first_fit s (weights_at s period) l j → (k ≡ arc_back s (weights_at s period) start t) × (k < length s.arcs)
+pub arc_at : (s : SystemData) (period start t j n k l : ℕ) (arcs seen : List ℕ) → IsSystem s → start < s.nodes
+    → Rises s (weights_at s period) start → IsWayBack s period start t j arcs seen → get_or seen j 0 ≡ s.nodes
+    → n ≡ s.nodes → l ≡ n - 1 - t → k ≡ first_fit s (weights_at s period) l j
+    → (k ≡ arc_back s (weights_at s period) start t) × (k < length s.arcs)
 arc_at s period start t j n k l arcs seen valid p rises h unseen e is_l is =
     let wt = weights_at s period in
     let left = steps_left s period start t j arcs seen valid p rises h unseen in

@@ -57,12 +57,14 @@ refutes_later w q m p t le le' shut gains =
     (λ up. refutes_on w q p t gains up le')
 
 -- where q is below 0 the least period kept is above this one, and all below it are refuted
-pub kept_later : (walk : WalkData) (period : ℕ) → Refutes walk.w walk.q period → walk.q <ℤ pos 0 → period < least_kept walk
+pub kept_later : (walk : WalkData) (period : ℕ) → Refutes walk.w walk.q period → walk.q <ℤ pos 0
+    → period < least_kept walk
 kept_later walk period gains down =
     let (p, line) = falling walk.q period down in
     kept_above (unsigned_abs walk.w) (unsigned_abs walk.q) period p (omega (arith, ints, gains, line))
 
-pub refutes_below : (walk : WalkData) (period t : ℕ) → Refutes walk.w walk.q period → walk.q <ℤ pos 0 → t < least_kept walk → Refutes walk.w walk.q t
+pub refutes_below : (walk : WalkData) (period t : ℕ) → Refutes walk.w walk.q period → walk.q <ℤ pos 0
+    → t < least_kept walk → Refutes walk.w walk.q t
 refutes_below walk period t gains down lt =
     let (p, line) = falling walk.q t down in
     let at = falling walk.q period down in
@@ -92,11 +94,13 @@ pub kept_is : (walk : WalkData) (period cap kept : ℕ) → Refutes walk.w walk.
 kept_is walk period cap kept gains down most below met =
     let least = least_kept walk in
     let up : kept ≤ least =
-    ⊎_elim (λ (less : least < kept). absurd (let later = kept_later walk period gains down in let again = kept_later walk least (below least (omega (arith, later)) less) down in omega (arith, again))) (λ le. le)
+    ⊎_elim (λ (less : least < kept). absurd (let later = kept_later walk period gains down in let again = kept_later
+    walk least (below least (omega (arith, later)) less) down in omega (arith, again))) (λ le. le)
     (cases_lt least kept) in
     ⊎_elim
     (λ (lt : kept < cap).
-    ⊎_elim (λ (less : kept < least). absurd (met lt (refutes_below walk period kept gains down less))) (λ (le : least ≤ kept). omega (arith, up, le, lt)) (cases_lt kept least))
+    ⊎_elim (λ (less : kept < least). absurd (met lt (refutes_below walk period kept gains down less)))
+    (λ (le : least ≤ kept). omega (arith, up, le, lt)) (cases_lt kept least))
     (λ (le : cap ≤ kept). omega (arith, up, le, most))
     (cases_lt kept cap)
 
@@ -125,43 +129,57 @@ pub found_none : (s : SystemData) (period : ℕ) → IsSystem s → closed_walk_
 found_none s period valid e =
     ⊎_elim (λ f. f.0) (λ (walk, is, refuted). absurd (let c : Some walk ≡ None = sym is ∙ e in cc)) (closed_cases s period valid)
 
-pub found_some : (s : SystemData) (period : ℕ) (walk : WalkData) → IsSystem s → closed_walk_of s period ≡ Some walk → IsRefutedBy s period walk
+pub found_some : (s : SystemData) (period : ℕ) (walk : WalkData) → IsSystem s → closed_walk_of s period ≡ Some walk
+    → IsRefutedBy s period walk
 found_some s period walk valid e =
     ⊎_elim (λ f. absurd (let c : Some walk ≡ None = sym e ∙ f.1 in cc))
     (λ (other, is, refuted). let same : other ≡ walk = (let c : Some other ≡ Some walk = sym is ∙ e in cc) in subst (IsRefutedBy s period) same refuted)
     (closed_cases s period valid)
 
-pub none_where_feasible : (s : SystemData) (period : ℕ) → IsSystem s → IsFeasible s period → closed_walk_of s period ≡ None
+pub none_where_feasible : (s : SystemData) (period : ℕ) → IsSystem s → IsFeasible s period
+    → closed_walk_of s period ≡ None
 none_where_feasible s period valid feasible =
     ⊎_elim (λ f. f.1) (λ (walk, is, refuted). absurd (closed_refutes s period walk refuted.0 refuted.1 feasible)) (closed_cases s period valid)
 
 -- ---- steps of the climb
-climb_more : (s : SystemData) (cap fuel period : ℕ) (low : Option WalkData) → period < cap → climb_from s cap (suc fuel) period low ≡ match_walk (closed_walk_of s period) (Floor period low) (λ walk. cond (is_negative walk.q) (climb_from s cap fuel (least_kept walk) (Some walk)) (Shut low (Some walk)))
+climb_more : (s : SystemData) (cap fuel period : ℕ) (low : Option WalkData) → period < cap
+    → climb_from s cap (suc fuel) period low ≡ match_walk (closed_walk_of s period) (Floor period low)
+    (λ walk. cond (is_negative walk.q) (climb_from s cap fuel (least_kept walk) (Some walk)) (Shut low (Some walk)))
 climb_more s cap fuel period low lt = cond-true (nat_lt period cap) _ (Shut low None) (lt-ltb period cap lt)
 
-pub climb_at_cap : (s : SystemData) (cap fuel period : ℕ) (low : Option WalkData) → cap ≤ period → climb_from s cap fuel period low ≡ Shut low None
+pub climb_at_cap : (s : SystemData) (cap fuel period : ℕ) (low : Option WalkData) → cap ≤ period
+    → climb_from s cap fuel period low ≡ Shut low None
 climb_at_cap s cap zero period low le = refl
 climb_at_cap s cap (suc fuel) period low le = cond-false (nat_lt period cap) _ (Shut low None) (le-ltb period cap le)
 
-pub climb_floor : (s : SystemData) (cap fuel period : ℕ) (low : Option WalkData) → period < cap → cap ≤ period + fuel → closed_walk_of s period ≡ None → climb_from s cap fuel period low ≡ Floor period low
+pub climb_floor : (s : SystemData) (cap fuel period : ℕ) (low : Option WalkData) → period < cap → cap ≤ period + fuel
+    → closed_walk_of s period ≡ None → climb_from s cap fuel period low ≡ Floor period low
 climb_floor s cap zero period low lt enough e = absurd (omega (arith, lt, enough))
 climb_floor s cap (suc fuel) period low lt enough e =
     climb_more s cap fuel period low lt
-    ∙ ap (λ o. match_walk o (Floor period low) (λ walk. cond (is_negative walk.q) (climb_from s cap fuel (least_kept walk) (Some walk)) (Shut low (Some walk)))) e
+    ∙ ap (λ o. match_walk o (Floor period low) (λ walk. cond (is_negative walk.q)
+    (climb_from s cap fuel (least_kept walk) (Some walk)) (Shut low (Some walk)))) e
 
-pub climb_shut : (s : SystemData) (cap fuel period : ℕ) (low : Option WalkData) (walk : WalkData) → period < cap → cap ≤ period + fuel → closed_walk_of s period ≡ Some walk → pos 0 ≤ℤ walk.q → climb_from s cap fuel period low ≡ Shut low (Some walk)
+pub climb_shut : (s : SystemData) (cap fuel period : ℕ) (low : Option WalkData) (walk : WalkData) → period < cap
+    → cap ≤ period + fuel → closed_walk_of s period ≡ Some walk → pos 0 ≤ℤ walk.q
+    → climb_from s cap fuel period low ≡ Shut low (Some walk)
 climb_shut s cap zero period low walk lt enough e up = absurd (omega (arith, lt, enough))
 climb_shut s cap (suc fuel) period low walk lt enough e up =
     climb_more s cap fuel period low lt
-    ∙ ap (λ o. match_walk o (Floor period low) (λ walk. cond (is_negative walk.q) (climb_from s cap fuel (least_kept walk) (Some walk)) (Shut low (Some walk)))) e
+    ∙ ap (λ o. match_walk o (Floor period low) (λ walk. cond (is_negative walk.q)
+    (climb_from s cap fuel (least_kept walk) (Some walk)) (Shut low (Some walk)))) e
     ∙ cond-false (is_negative walk.q) (climb_from s cap fuel (least_kept walk) (Some walk)) (Shut low (Some walk)) (false_lt walk.q (pos 0) up)
 
-pub climb_raises : (s : SystemData) (cap fuel period : ℕ) (low : Option WalkData) (walk : WalkData) (answer : Climbed) → period < cap → cap ≤ period + fuel → closed_walk_of s period ≡ Some walk → walk.q <ℤ pos 0 → period < least_kept walk → climb_from s cap fuel period low ≡ answer → (left : ℕ) × (cap ≤ least_kept walk + left) × (climb_from s cap left (least_kept walk) (Some walk) ≡ answer)
+pub climb_raises : (s : SystemData) (cap fuel period : ℕ) (low : Option WalkData) (walk : WalkData) (answer : Climbed)
+    → period < cap → cap ≤ period + fuel → closed_walk_of s period ≡ Some walk → walk.q <ℤ pos 0
+    → period < least_kept walk → climb_from s cap fuel period low ≡ answer
+    → (left : ℕ) × (cap ≤ least_kept walk + left) × (climb_from s cap left (least_kept walk) (Some walk) ≡ answer)
 climb_raises s cap zero period low walk answer lt enough e down later is = absurd (omega (arith, lt, enough))
 climb_raises s cap (suc fuel) period low walk answer lt enough e down later is =
     let step =
     climb_more s cap fuel period low lt
-    ∙ ap (λ o. match_walk o (Floor period low) (λ walk. cond (is_negative walk.q) (climb_from s cap fuel (least_kept walk) (Some walk)) (Shut low (Some walk)))) e
+    ∙ ap (λ o. match_walk o (Floor period low) (λ walk. cond (is_negative walk.q)
+    (climb_from s cap fuel (least_kept walk) (Some walk)) (Shut low (Some walk)))) e
     ∙ cond-true (is_negative walk.q) (climb_from s cap fuel (least_kept walk) (Some walk)) (Shut low (Some walk)) (true_lt walk.q (pos 0) down) in
     (fuel, omega (arith, enough, later), sym step ∙ is)
 
@@ -178,24 +196,30 @@ climb_capped s cap fuel period kept low answer is enough goes =
     (cases_lt period cap)
 
 -- ---- what is ruled out
-pub none_before : (s : SystemData) (period : ℕ) (walk : WalkData) → IsRefutedBy s period walk → walk.q <ℤ pos 0 → (t : ℕ) → t < least_kept walk → IsFeasible s t → ⊥
+pub none_before : (s : SystemData) (period : ℕ) (walk : WalkData) → IsRefutedBy s period walk → walk.q <ℤ pos 0
+    → (t : ℕ) → t < least_kept walk → IsFeasible s t → ⊥
 none_before s period walk refuted down t lt = closed_refutes s t walk refuted.0 (refutes_below walk period t refuted.1 down lt)
 
-pub none_after : (s : SystemData) (period : ℕ) (walk : WalkData) → IsRefutedBy s period walk → pos 0 ≤ℤ walk.q → (t : ℕ) → period ≤ t → IsFeasible s t → ⊥
+pub none_after : (s : SystemData) (period : ℕ) (walk : WalkData) → IsRefutedBy s period walk → pos 0 ≤ℤ walk.q → (t : ℕ)
+    → period ≤ t → IsFeasible s t → ⊥
 none_after s period walk refuted up t le = closed_refutes s t walk refuted.0 (refutes_on walk.w walk.q period t refuted.1 up le)
 
-pub refuted_if : (s : SystemData) (period : ℕ) (found : Option WalkData) → IsSystem s → found ≡ closed_walk_of s period → IfSome found (λ walk. Refutes walk.w walk.q period)
+pub refuted_if : (s : SystemData) (period : ℕ) (found : Option WalkData) → IsSystem s → found ≡ closed_walk_of s period
+    → IfSome found (λ walk. Refutes walk.w walk.q period)
 refuted_if s period None valid e = tt
 refuted_if s period (Some walk) valid e = (found_some s period walk valid (sym e)).1
 
-pub closed_if : (s : SystemData) (period : ℕ) (found : Option WalkData) → IsSystem s → found ≡ closed_walk_of s period → IfSome found (IsClosedWalk s)
+pub closed_if : (s : SystemData) (period : ℕ) (found : Option WalkData) → IsSystem s → found ≡ closed_walk_of s period
+    → IfSome found (IsClosedWalk s)
 closed_if s period None valid e = tt
 closed_if s period (Some walk) valid e = (found_some s period walk valid (sym e)).0
 
-pub small_if : (s : SystemData) (found : Option WalkData) → IsSystem s → IfSome found (IsClosedWalk s) → IfSome found HasSmallSums
+pub small_if : (s : SystemData) (found : Option WalkData) → IsSystem s → IfSome found (IsClosedWalk s)
+    → IfSome found HasSmallSums
 small_if s None valid h = tt
 small_if s (Some walk) valid h = sums_small s walk valid h
 
-pub small_walks : (s : SystemData) (answer : Climbed) → IsSystem s → AllWalks (IsClosedWalk s) answer → AllWalks HasSmallSums answer
+pub small_walks : (s : SystemData) (answer : Climbed) → IsSystem s → AllWalks (IsClosedWalk s) answer
+    → AllWalks HasSmallSums answer
 small_walks s (Floor period low) valid h = small_if s low valid h
 small_walks s (Shut low high) valid h = (small_if s low valid h.0, small_if s high valid h.1)

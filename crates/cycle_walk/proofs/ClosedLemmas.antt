@@ -13,7 +13,8 @@ use Rattle.cycle_walk.proofs.FirstLemmas.{first_cases, first_none, false_lt, lt_
 use Rattle.cycle_walk.proofs.TrailLemmas.{has_loop, back_leads, loop_gains}
 
 -- what any solution says of the ends of a walk
-walk_bound : (s : SystemData) (period : ℕ) (t : ℕ → ℤ) (i j : ℕ) (ks : List ℕ) → Solves s period t → Walks s i ks j → (t i +ℤ walk_weight (weights_at s period) ks) ≤ℤ t j
+walk_bound : (s : SystemData) (period : ℕ) (t : ℕ → ℤ) (i j : ℕ) (ks : List ℕ) → Solves s period t → Walks s i ks j
+    → (t i +ℤ walk_weight (weights_at s period) ks) ≤ℤ t j
 walk_bound s period t i j [] solves h = let e : t i ≡ t j = ap t h in omega (arith, ints)
 walk_bound s period t i j (k ∷ ks) solves h =
     let e : t (arc s k).from ≡ t i = ap t h.1 in
@@ -24,14 +25,17 @@ length-back_to f a zero = refl
 length-back_to f a (suc n) = omega (arith, length-back_to f a n)
 
 -- a closed walk that refutes a period leaves no solution
-pub closed_refutes : (s : SystemData) (period : ℕ) (walk : WalkData) → IsClosedWalk s walk → Refutes walk.w walk.q period → IsFeasible s period → ⊥
+pub closed_refutes : (s : SystemData) (period : ℕ) (walk : WalkData) → IsClosedWalk s walk
+    → Refutes walk.w walk.q period → IsFeasible s period → ⊥
 closed_refutes s period walk closed gains (t, solves) =
     let bound = walk_bound s period t closed.node closed.node walk.arcs solves closed.leads in
     let q = ap (λ z. z *ℤ pos period) closed.q in
     omega (arith, ints, bound, weighs_sums s period walk.arcs, gains, closed.w, q)
 
 -- a node that grows in the last round has the canonical walk
-pub walk_found : (s : SystemData) (period i : ℕ) → IsSystem s → i < s.nodes → Rises s (weights_at s period) i → IsClosedWalk s (walk_of s (arcs_from s (weights_at s period) i)) × Refutes (sum_w s (arcs_from s (weights_at s period) i)) (sum_q s (arcs_from s (weights_at s period) i)) period
+pub walk_found : (s : SystemData) (period i : ℕ) → IsSystem s → i < s.nodes → Rises s (weights_at s period) i
+    → IsClosedWalk s (walk_of s (arcs_from s (weights_at s period) i))
+    × Refutes (sum_w s (arcs_from s (weights_at s period) i)) (sum_q s (arcs_from s (weights_at s period) i)) period
 walk_found s period i valid p rises =
     let wt = weights_at s period in
     let f = node_back s wt i in
@@ -55,7 +59,9 @@ walk_found s period i valid p rises =
     )
 
 -- where no node grows in the last round, its values solve the system
-pub solved_by : (s : SystemData) (period : ℕ) → IsSystem s → ((i : ℕ) → i < s.nodes → value s (weights_at s period) s.nodes i ≤ℤ value s (weights_at s period) (s.nodes - 1) i) → IsFeasible s period
+pub solved_by : (s : SystemData) (period : ℕ) → IsSystem s
+    → ((i : ℕ) → i < s.nodes → value s (weights_at s period) s.nodes i ≤ℤ value s (weights_at s period) (s.nodes - 1) i)
+    → IsFeasible s period
 solved_by s period valid none =
     let wt = weights_at s period in (
       value s wt (s.nodes - 1),
@@ -68,27 +74,40 @@ solved_by s period valid none =
 abbrev pub IsRefutedBy : SystemData → ℕ → WalkData → Type 0
 IsRefutedBy s period walk = IsClosedWalk s walk × Refutes walk.w walk.q period
 
-pub closed_cases : (s : SystemData) (period : ℕ) → IsSystem s → (IsFeasible s period × (closed_walk_of s period ≡ None)) ⊎ ((walk : WalkData) × (closed_walk_of s period ≡ Some walk) × IsRefutedBy s period walk)
+pub closed_cases : (s : SystemData) (period : ℕ) → IsSystem s
+    → (IsFeasible s period × (closed_walk_of s period ≡ None)) ⊎ ((walk : WalkData) × (closed_walk_of s period ≡ Some walk) × IsRefutedBy s period walk)
 unfolding closed_walk_of
 closed_cases s period valid =
     let wt = weights_at s period in
     let i = first_risen s wt in
     let walk = walk_of s (arcs_from s wt i) in
     ⊎_elim
-    (λ (all, none). inl (solved_by s period valid (λ j p. lt_false (value s wt (s.nodes - 1) j) (value s wt s.nodes j) (none j p)), cond-false (nat_lt i s.nodes) (Some walk) None (le-ltb i s.nodes (omega (arith, all)))))
-    (λ (lt, found, before). inr (walk, cond-true (nat_lt i s.nodes) (Some walk) None (lt-ltb i s.nodes lt), walk_found s period i valid lt (lt_true (value s wt (s.nodes - 1) i) (value s wt s.nodes i) found)))
+    (λ (all, none). inl (
+      solved_by s period valid (λ j p. lt_false (value s wt (s.nodes - 1) j) (value s wt s.nodes j)
+          (none j p)),
+      cond-false (nat_lt i s.nodes) (Some walk) None (le-ltb i s.nodes (omega (arith, all))),
+    ))
+    (λ (lt, found, before). inr (
+      walk,
+      cond-true (nat_lt i s.nodes) (Some walk) None (lt-ltb i s.nodes lt),
+      walk_found s period i valid lt (lt_true (value s wt (s.nodes - 1) i) (value s wt s.nodes i) found),
+    ))
     (first_cases (λ j. int_lt (value s wt (s.nodes - 1) j) (value s wt s.nodes j)) s.nodes)
 
 -- a last round that changes no node: no canonical walk
-pub none_where_still : (s : SystemData) (period : ℕ) → ((i : ℕ) → i < s.nodes → value s (weights_at s period) s.nodes i ≡ value s (weights_at s period) (s.nodes - 1) i) → closed_walk_of s period ≡ None
+pub none_where_still : (s : SystemData) (period : ℕ)
+    → ((i : ℕ) → i < s.nodes → value s (weights_at s period) s.nodes i ≡ value s (weights_at s period) (s.nodes - 1) i)
+    → closed_walk_of s period ≡ None
 unfolding closed_walk_of
 none_where_still s period still =
     let wt = weights_at s period in
     let i = first_risen s wt in
-    let none : i ≡ s.nodes = first_none (λ j. int_lt (value s wt (s.nodes - 1) j) (value s wt s.nodes j)) s.nodes (λ j p. false_lt (value s wt (s.nodes - 1) j) (value s wt s.nodes j) (omega (arith, ints, still j p))) in
+    let none : i ≡ s.nodes = first_none (λ j. int_lt (value s wt (s.nodes - 1) j) (value s wt s.nodes j)) s.nodes
+    (λ j p. false_lt (value s wt (s.nodes - 1) j) (value s wt s.nodes j) (omega (arith, ints, still j p))) in
     cond-false (nat_lt i s.nodes) (Some (walk_of s (arcs_from s wt i))) None (le-ltb i s.nodes (omega (arith, none)))
 
-pub some_where_risen : (s : SystemData) (period i : ℕ) → i ≡ first_risen s (weights_at s period) → i < s.nodes → closed_walk_of s period ≡ Some (walk_of s (arcs_from s (weights_at s period) i))
+pub some_where_risen : (s : SystemData) (period i : ℕ) → i ≡ first_risen s (weights_at s period) → i < s.nodes
+    → closed_walk_of s period ≡ Some (walk_of s (arcs_from s (weights_at s period) i))
 unfolding closed_walk_of
 some_where_risen s period i is p =
     let wt = weights_at s period in
@@ -97,7 +116,8 @@ some_where_risen s period i is p =
     ∙ ap (λ j. Some (walk_of s (arcs_from s wt j))) (sym is)
 
 -- ---- sizes of sums
-sums_within : (s : SystemData) (i j : ℕ) (ks : List ℕ) → IsSystem s → Walks s i ks j → (unsigned_abs (sum_w s ks) ≤ 10000000 * length ks) × (unsigned_abs (sum_q s ks) ≤ 1000000000 * length ks)
+sums_within : (s : SystemData) (i j : ℕ) (ks : List ℕ) → IsSystem s → Walks s i ks j
+    → (unsigned_abs (sum_w s ks) ≤ 10000000 * length ks) × (unsigned_abs (sum_q s ks) ≤ 1000000000 * length ks)
 sums_within s i j [] valid h = (omega (arith, ints), omega (arith, ints))
 sums_within s i j (k ∷ ks) valid h =
     let rest = sums_within s (arc s k).to j ks valid h.2 in

@@ -11,7 +11,9 @@ use Rattle.cycle_walk.proofs.FirstLemmas.{first_some, first_alike, loop_is, lt_t
 use Rattle.cycle_walk.proofs.BackLemmas.{back_same}
 
 -- the first node that grew in the table is the first that grows
-pub start_is : (s : SystemData) (period n start : ℕ) (rows : List ℤ) → AreValues s period s.nodes rows → n ≡ s.nodes → start ≡ first_below (λ i. int_lt (cell n rows (n - 1) i) (cell n rows n i)) n → start ≡ first_risen s (weights_at s period)
+pub start_is : (s : SystemData) (period n start : ℕ) (rows : List ℤ) → AreValues s period s.nodes rows → n ≡ s.nodes
+    → start ≡ first_below (λ i. int_lt (cell n rows (n - 1) i) (cell n rows n i)) n
+    → start ≡ first_risen s (weights_at s period)
 start_is s period n start rows h e is =
     let wt = weights_at s period in
     let k = s.nodes in
@@ -20,16 +22,19 @@ start_is s period n start rows h e is =
     ∙ first_alike (λ i. int_lt (cell k rows (k - 1) i) (cell k rows k i)) (λ i. int_lt (value s wt (k - 1) i) (value s wt k i)) k
     (λ i p. ap (λ z. int_lt z (cell k rows k i)) (h.is (k - 1) i (omega arith) p) ∙ ap (λ z. int_lt (value s wt (k - 1) i) z) (h.is k i (omega arith) p))
 
-pub start_rises : (s : SystemData) (period start i : ℕ) → start ≡ first_risen s (weights_at s period) → i < s.nodes → Rises s (weights_at s period) i → (start < s.nodes) × Rises s (weights_at s period) start
+pub start_rises : (s : SystemData) (period start i : ℕ) → start ≡ first_risen s (weights_at s period) → i < s.nodes
+    → Rises s (weights_at s period) i → (start < s.nodes) × Rises s (weights_at s period) start
 start_rises s period start i is p rises =
     let wt = weights_at s period in
     let f = first_risen s wt in
-    let (lt, found, before) = first_some (λ j. int_lt (value s wt (s.nodes - 1) j) (value s wt s.nodes j)) s.nodes i p (true_lt (value s wt (s.nodes - 1) i) (value s wt s.nodes i) rises) in
+    let (lt, found, before) = first_some (λ j. int_lt (value s wt (s.nodes - 1) j) (value s wt s.nodes j)) s.nodes i p
+    (true_lt (value s wt (s.nodes - 1) i) (value s wt s.nodes i) rises) in
     let at : Rises s wt f = lt_true (value s wt (s.nodes - 1) f) (value s wt s.nodes f) found in
     (omega (arith, is, lt), omega (arith, ints, at, ap (value s wt (s.nodes - 1)) is, ap (value s wt s.nodes) is))
 
 -- the trail has the constraints of the canonical walk
-pub trail_walk : (s : SystemData) (period start first end : ℕ) (arcs : List ℕ) → IsTrail s period start arcs first end → back_to (slice_index arcs) first (end - first) ≡ arcs_from s (weights_at s period) start
+pub trail_walk : (s : SystemData) (period start first end : ℕ) (arcs : List ℕ) → IsTrail s period start arcs first end
+    → back_to (slice_index arcs) first (end - first) ≡ arcs_from s (weights_at s period) start
 trail_walk s period start first end arcs h =
     let wt = weights_at s period in
     let f = node_back s wt start in

@@ -32,7 +32,8 @@ at_back_to f a zero x lt = absurd (omega (arith, lt))
 at_back_to f a (suc n) zero lt = let e : a + n ≡ a + suc n - 1 = omega arith in ap f e
 at_back_to f a (suc n) (suc x) lt = let e : a + n - suc x ≡ a + suc n - suc (suc x) = omega arith in at_back_to f a n x (omega (arith, lt)) ∙ ap f e
 
-first_fit_at : (s : SystemData) (wt : ℕ → ℤ) (i t : ℕ) → Rises s wt i → t < s.nodes → IsFirstFit s wt (s.nodes - suc t) (node_back s wt i t) (arc_back s wt i t)
+first_fit_at : (s : SystemData) (wt : ℕ → ℤ) (i t : ℕ) → Rises s wt i → t < s.nodes
+    → IsFirstFit s wt (s.nodes - suc t) (node_back s wt i t) (arc_back s wt i t)
 first_fit_at s wt i t rises lt =
     let m = s.nodes - suc t in
     let j = node_back s wt i t in
@@ -45,7 +46,9 @@ first_fit_at s wt i t rises lt =
       first = λ x less to sum. both_ways (fits s wt m j x) (before x less) (fits_true s wt m j x (to, sum));
     }
 
-canonical_from : (s : SystemData) (period i : ℕ) → IsSystem s → i < s.nodes → Rises s (weights_at s period) i → ((x : ℕ) → x < i → int_lt (value s (weights_at s period) (s.nodes - 1) x) (value s (weights_at s period) s.nodes x) ≡ false) → IsCanonical s (weights_at s period) (walk_of s (arcs_from s (weights_at s period) i))
+canonical_from : (s : SystemData) (period i : ℕ) → IsSystem s → i < s.nodes → Rises s (weights_at s period) i
+    → ((x : ℕ) → x < i → int_lt (value s (weights_at s period) (s.nodes - 1) x) (value s (weights_at s period) s.nodes x) ≡ false)
+    → IsCanonical s (weights_at s period) (walk_of s (arcs_from s (weights_at s period) i))
 canonical_from s period i valid p rises before =
     let wt = weights_at s period in
     let f = node_back s wt i in
@@ -87,7 +90,8 @@ walk_is_canonical s period walk valid e =
 
 pub least_kept_is_least : LeastKeptIsLeast
 least_kept_is_least walk period t gains down = (
-  λ more. let (p, line) = falling walk.q t down in kept_above (unsigned_abs walk.w) (unsigned_abs walk.q) t p (omega (arith, ints, more, gains, line, (falling walk.q period down).1)),
+  λ more. let (p, line) = falling walk.q t down in kept_above (unsigned_abs walk.w) (unsigned_abs walk.q) t p
+      (omega (arith, ints, more, gains, line, (falling walk.q period down).1)),
   λ lt. refutes_below walk period t gains down lt,
 )
 
@@ -100,27 +104,32 @@ one_fit s wt m i j k l f g e =
     (λ o. ⊎_elim (λ lt. absurd (g.first k lt (f.ends ∙ e) f_sum)) (λ gt. absurd (f.first l gt (g.ends ∙ sym e) g_sum)) o)
     (cases_order k l)
 
-one_start : (s : SystemData) (wt : ℕ → ℤ) (x y : WalkData) (c : IsCanonical s wt x) (d : IsCanonical s wt y) → c.node 0 < d.node 0 → ⊥
+one_start : (s : SystemData) (wt : ℕ → ℤ) (x y : WalkData) (c : IsCanonical s wt x) (d : IsCanonical s wt y)
+    → c.node 0 < d.node 0 → ⊥
 one_start s wt x y c d lt = omega (arith, ints, d.start_least (c.node 0) lt, c.start_grows)
 
-one_node : (s : SystemData) (wt : ℕ → ℤ) (x y : WalkData) (c : IsCanonical s wt x) (d : IsCanonical s wt y) (t : ℕ) → t ≤ c.b → t ≤ d.b → c.node t ≡ d.node t
+one_node : (s : SystemData) (wt : ℕ → ℤ) (x y : WalkData) (c : IsCanonical s wt x) (d : IsCanonical s wt y) (t : ℕ)
+    → t ≤ c.b → t ≤ d.b → c.node t ≡ d.node t
 one_node s wt x y c d zero p q =
     ⊎_elim (λ same. same)
     (λ o. ⊎_elim (λ lt. absurd (one_start s wt x y c d lt)) (λ gt. absurd (one_start s wt y x d c gt)) o)
     (cases_order (c.node 0) (d.node 0))
 one_node s wt x y c d (suc t) p q =
     let before = one_node s wt x y c d t (omega (arith, p)) (omega (arith, q)) in
-    let same = one_fit s wt (s.nodes - suc t) (c.node t) (d.node t) (c.arc_of t) (d.arc_of t) (c.fits t (omega (arith, p))) (d.fits t (omega (arith, q))) before in
+    let same = one_fit s wt (s.nodes - suc t) (c.node t) (d.node t) (c.arc_of t) (d.arc_of t)
+    (c.fits t (omega (arith, p))) (d.fits t (omega (arith, q))) before in
     c.goes_back t (omega (arith, p)) ∙ ap (λ k. (arc s k).from) same ∙ sym (d.goes_back t (omega (arith, q)))
 
-one_end : (s : SystemData) (wt : ℕ → ℤ) (x y : WalkData) (c : IsCanonical s wt x) (d : IsCanonical s wt y) → c.b < d.b → ⊥
+one_end : (s : SystemData) (wt : ℕ → ℤ) (x y : WalkData) (c : IsCanonical s wt x) (d : IsCanonical s wt y) → c.b < d.b
+    → ⊥
 one_end s wt x y c d lt =
     let order : c.a < c.b = c.loop.order in
     let at_a = one_node s wt x y c d c.a (omega (arith, order)) (omega (arith, order, lt)) in
     let at_b = one_node s wt x y c d c.b (omega arith) (omega (arith, lt)) in
     d.loop.once c.a c.b order lt (sym at_a ∙ c.loop.same ∙ at_b)
 
-one_first : (s : SystemData) (wt : ℕ → ℤ) (x y : WalkData) (c : IsCanonical s wt x) (d : IsCanonical s wt y) → c.b ≡ d.b → c.a < d.a → ⊥
+one_first : (s : SystemData) (wt : ℕ → ℤ) (x y : WalkData) (c : IsCanonical s wt x) (d : IsCanonical s wt y) → c.b ≡ d.b
+    → c.a < d.a → ⊥
 one_first s wt x y c d e lt =
     let order : d.a < d.b = d.loop.order in
     let at_a = one_node s wt x y c d c.a (omega (arith, lt, order, e)) (omega (arith, lt, order)) in
@@ -132,7 +141,8 @@ as_sums s x w q =
     let to : ℤ → ℤ → WalkData = λ u v. record { arcs = x.arcs; w = u; q = v } in
     ap (λ u. to u x.q) w ∙ ap (λ v. to (sum_w s x.arcs) v) q
 
-same_numbers : (xs ys : List ℕ) → length xs ≡ length ys → ((i : ℕ) → i < length xs → get_or xs i 0 ≡ get_or ys i 0) → xs ≡ ys
+same_numbers : (xs ys : List ℕ) → length xs ≡ length ys → ((i : ℕ) → i < length xs → get_or xs i 0 ≡ get_or ys i 0)
+    → xs ≡ ys
 same_numbers [] [] e h = refl
 same_numbers [] (y ∷ ys) e h = absurd (omega (arith, e))
 same_numbers (x ∷ xs) [] e h = absurd (omega (arith, e))
@@ -142,8 +152,10 @@ same_numbers (x ∷ xs) (y ∷ ys) e h =
 
 pub canonical_is_one : CanonicalIsOne
 canonical_is_one s wt x y c d =
-    let end : c.b ≡ d.b = ⊎_elim (λ same. same) (λ o. ⊎_elim (λ lt. absurd (one_end s wt x y c d lt)) (λ gt. absurd (one_end s wt y x d c gt)) o) (cases_order c.b d.b) in
-    let first : c.a ≡ d.a = ⊎_elim (λ same. same) (λ o. ⊎_elim (λ lt. absurd (one_first s wt x y c d end lt)) (λ gt. absurd (one_first s wt y x d c (sym end) gt)) o) (cases_order c.a d.a) in
+    let end : c.b ≡ d.b = ⊎_elim (λ same. same) (λ o. ⊎_elim (λ lt. absurd (one_end s wt x y c d lt))
+    (λ gt. absurd (one_end s wt y x d c gt)) o) (cases_order c.b d.b) in
+    let first : c.a ≡ d.a = ⊎_elim (λ same. same) (λ o. ⊎_elim (λ lt. absurd (one_first s wt x y c d end lt))
+    (λ gt. absurd (one_first s wt y x d c (sym end) gt)) o) (cases_order c.a d.a) in
     let arcs : x.arcs ≡ y.arcs = same_numbers x.arcs y.arcs (omega (arith, c.count, d.count, end, first))
     (λ i lt.
     let t = c.b - suc i in

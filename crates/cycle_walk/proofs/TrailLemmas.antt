@@ -29,7 +29,8 @@ fits_holds s wt m j k e =
     (eqb-true (arc s k).to j parts.0, (Decides-int_eq (value s wt m (arc s k).from +ℤ wt k) (value s wt (suc m) j)).0 parts.1)
 
 -- a value that grows comes along a constraint
-pub fit_found : (s : SystemData) (wt : ℕ → ℤ) (m j : ℕ) → Grows s wt m j → IsFirst (fits s wt m j) (length s.arcs) (first_fit s wt m j)
+pub fit_found : (s : SystemData) (wt : ℕ → ℤ) (m j : ℕ) → Grows s wt m j
+    → IsFirst (fits s wt m j) (length s.arcs) (first_fit s wt m j)
 fit_found s wt m j grows =
     ⊎_elim
     (λ same. absurd (omega (arith, ints, grows, same)))
@@ -46,7 +47,8 @@ step_by s wt i t grows =
     (lt, fits_holds s wt (s.nodes - suc t) (node_back s wt i t) (arc_back s wt i t) found)
 
 -- so does each node on the way, in its round
-pub grows_at : (s : SystemData) (wt : ℕ → ℤ) (i t m : ℕ) → Rises s wt i → t + suc m ≡ s.nodes → Grows s wt m (node_back s wt i t)
+pub grows_at : (s : SystemData) (wt : ℕ → ℤ) (i t m : ℕ) → Rises s wt i → t + suc m ≡ s.nodes
+    → Grows s wt m (node_back s wt i t)
 grows_at s wt i zero m rises e =
     omega (arith, ints, rises, value_at s wt (s.nodes - 1) m i (omega (arith, e)), value_at s wt s.nodes (suc m) i (omega (arith, e)))
 grows_at s wt i (suc t) m rises e =
@@ -62,19 +64,22 @@ grows_at s wt i (suc t) m rises e =
 pub step_at : (s : SystemData) (wt : ℕ → ℤ) (i t : ℕ) → Rises s wt i → t < s.nodes → IsStep s wt i t
 step_at s wt i t rises lt = step_by s wt i t (grows_at s wt i t (s.nodes - suc t) rises (omega (arith, lt)))
 
-pub node_below : (s : SystemData) (wt : ℕ → ℤ) (i t : ℕ) → IsSystem s → i < s.nodes → Rises s wt i → t ≤ s.nodes → node_back s wt i t < s.nodes
+pub node_below : (s : SystemData) (wt : ℕ → ℤ) (i t : ℕ) → IsSystem s → i < s.nodes → Rises s wt i → t ≤ s.nodes
+    → node_back s wt i t < s.nodes
 node_below s wt i zero valid p rises le = p
 node_below s wt i (suc t) valid p rises le =
     (valid.ends (arc_back s wt i t) (step_at s wt i t rises (omega (arith, le))).0).0
 
 -- a node comes for the second time
-pub has_loop : (s : SystemData) (wt : ℕ → ℤ) (i : ℕ) → IsSystem s → i < s.nodes → Rises s wt i → IsLoop (node_back s wt i) s.nodes (first_same (node_back s wt i) (first_again (node_back s wt i) s.nodes)) (first_again (node_back s wt i) s.nodes)
+pub has_loop : (s : SystemData) (wt : ℕ → ℤ) (i : ℕ) → IsSystem s → i < s.nodes → Rises s wt i
+    → IsLoop (node_back s wt i) s.nodes (first_same (node_back s wt i) (first_again (node_back s wt i) s.nodes)) (first_again (node_back s wt i) s.nodes)
 has_loop s wt i valid p rises =
     let (x, t, lt, le, e) = pigeonhole s.nodes (node_back s wt i) (λ k q. node_below s wt i k valid p rises q) in
     loop_of (node_back s wt i) s.nodes x t lt le e
 
 -- the steps from a + c down to a as a walk
-pub back_leads : (s : SystemData) (wt : ℕ → ℤ) (i a c : ℕ) → Rises s wt i → a + c ≤ s.nodes → Walks s (node_back s wt i (a + c)) (back_to (arc_back s wt i) a c) (node_back s wt i a)
+pub back_leads : (s : SystemData) (wt : ℕ → ℤ) (i a c : ℕ) → Rises s wt i → a + c ≤ s.nodes
+    → Walks s (node_back s wt i (a + c)) (back_to (arc_back s wt i) a c) (node_back s wt i a)
 back_leads s wt i a zero rises le = let e : a + 0 ≡ a = omega arith in ap (node_back s wt i) e
 back_leads s wt i a (suc c) rises le =
     let (lt, (to, sum)) = step_at s wt i (a + c) rises (omega (arith, le)) in
@@ -82,7 +87,9 @@ back_leads s wt i a (suc c) rises le =
     let rest = back_leads s wt i a c rises (omega (arith, le)) in
     (lt, ap (node_back s wt i) e, subst (λ j. Walks s j (back_to (arc_back s wt i) a c) (node_back s wt i a)) (sym to) rest)
 
-pub back_weighs : (s : SystemData) (wt : ℕ → ℤ) (i a c : ℕ) → Rises s wt i → a + c ≤ s.nodes → value s wt (s.nodes - (a + c)) (node_back s wt i (a + c)) +ℤ walk_weight wt (back_to (arc_back s wt i) a c) ≡ value s wt (s.nodes - a) (node_back s wt i a)
+pub back_weighs : (s : SystemData) (wt : ℕ → ℤ) (i a c : ℕ) → Rises s wt i → a + c ≤ s.nodes
+    → value s wt (s.nodes - (a + c)) (node_back s wt i (a + c)) +ℤ walk_weight wt (back_to (arc_back s wt i) a c)
+    ≡ value s wt (s.nodes - a) (node_back s wt i a)
 back_weighs s wt i a zero rises le =
     let e : a + 0 ≡ a = omega arith in
     let f = ap (λ t. value s wt (s.nodes - t) (node_back s wt i t)) e in
@@ -95,7 +102,8 @@ back_weighs s wt i a (suc c) rises le =
     omega (arith, ints, back_weighs s wt i a c rises (omega (arith, le)), f, g, sum)
 
 -- a loop gains
-pub loop_gains : (s : SystemData) (wt : ℕ → ℤ) (i a b : ℕ) → Rises s wt i → IsLoop (node_back s wt i) s.nodes a b → pos 0 <ℤ walk_weight wt (back_to (arc_back s wt i) a (b - a))
+pub loop_gains : (s : SystemData) (wt : ℕ → ℤ) (i a b : ℕ) → Rises s wt i → IsLoop (node_back s wt i) s.nodes a b
+    → pos 0 <ℤ walk_weight wt (back_to (arc_back s wt i) a (b - a))
 loop_gains s wt i a b rises loop =
     let le : b ≤ s.nodes = loop.within in
     let order : a < b = loop.order in
@@ -103,7 +111,8 @@ loop_gains s wt i a b rises loop =
     let weighs = back_weighs s wt i a (b - a) rises (omega (arith, order, le)) in
     let v = node_back s wt i a in
     let m = s.nodes - suc a in
-    let at_end : value s wt (s.nodes - (a + (b - a))) (node_back s wt i (a + (b - a))) ≡ value s wt (s.nodes - b) v = ap (λ t. value s wt (s.nodes - t) (node_back s wt i t)) end ∙ ap (value s wt (s.nodes - b)) (sym loop.same) in
+    let at_end : value s wt (s.nodes - (a + (b - a))) (node_back s wt i (a + (b - a))) ≡ value s wt (s.nodes - b) v = ap
+    (λ t. value s wt (s.nodes - t) (node_back s wt i t)) end ∙ ap (value s wt (s.nodes - b)) (sym loop.same) in
     let grows = grows_at s wt i a m rises (omega (arith, order, le)) in
     let top = value_at s wt (suc m) (s.nodes - a) v (omega (arith, order, le)) in
     let low = value_rises s wt (s.nodes - b) (b - suc a) v in

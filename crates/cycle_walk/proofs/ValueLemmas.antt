@@ -10,7 +10,8 @@ use Rattle.cycle_walk.specs.Values.{zeros, value, IsWalkValue}
 pub value_keeps : (s : SystemData) (wt : ℕ → ℤ) (m i : ℕ) → value s wt m i ≤ℤ value s wt (suc m) i
 value_keeps s wt m i = from_keeps s wt zeros m i
 
-pub value_brings : (s : SystemData) (wt : ℕ → ℤ) (m k : ℕ) → k < length s.arcs → (value s wt m (arc s k).from +ℤ wt k) ≤ℤ value s wt (suc m) (arc s k).to
+pub value_brings : (s : SystemData) (wt : ℕ → ℤ) (m k : ℕ) → k < length s.arcs
+    → (value s wt m (arc s k).from +ℤ wt k) ≤ℤ value s wt (suc m) (arc s k).to
 value_brings s wt m k lt = from_brings s wt zeros m k lt
 
 pub value_at : (s : SystemData) (wt : ℕ → ℤ) (m n i : ℕ) → m ≡ n → value s wt m i ≡ value s wt n i
@@ -26,6 +27,12 @@ is_walk_value s wt m i = record {
   most = λ from ks le walk. omega (arith, ints, from_most s wt zeros m i from ks le walk);
 }
 
-pub value_small : (s : SystemData) (period m i : ℕ) → IsSystem s → period ≤ 20001 → m ≤ 124 → i < s.nodes → unsigned_abs (value s (weights_at s period) m i) ≤ 4000000000000000
+pub value_small : (s : SystemData) (period m i : ℕ) → IsSystem s → period ≤ 20001 → m ≤ 124 → i < s.nodes
+    → unsigned_abs (value s (weights_at s period) m i) ≤ 4000000000000000
 value_small s period m i valid p le i_in =
-    omega (arith, from_within s (weights_at s period) zeros 20001010000000 0 m i valid (λ k lt. weight_small s period k valid p lt) (λ j lt. omega (arith, ints)) i_in, le)
+    omega (
+      arith,
+      from_within s (weights_at s period) zeros 20001010000000 0 m i valid
+          (λ k lt. weight_small s period k valid p lt) (λ j lt. omega (arith, ints)) i_in,
+      le,
+    )

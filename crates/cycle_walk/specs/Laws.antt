@@ -16,10 +16,13 @@ FeasibleWhereStill =
     (s : SystemData) (period : ℕ) → IsSystem s → IsFeasible s period
     ↔ ((i : ℕ) → i < s.nodes → value s (weights_at s period) s.nodes i ≤ℤ value s (weights_at s period) (s.nodes - 1) i)
 
--- after a round that changes no node all later values are the same, so a test that stops there answers as one that goes on
+-- after a round that changes no node all later values are the same, so a test that stops there answers as one that goes
+-- on
 abbrev pub StoppingIsExact : Type 0
 StoppingIsExact =
-    (s : SystemData) (period m d : ℕ) → IsSystem s → ((i : ℕ) → i < s.nodes → value s (weights_at s period) (suc m) i ≡ value s (weights_at s period) m i) → (i : ℕ) → i < s.nodes → value s (weights_at s period) (m + d) i ≡ value s (weights_at s period) m i
+    (s : SystemData) (period m d : ℕ) → IsSystem s → ((i : ℕ) → i < s.nodes → value s (weights_at s period) (suc m) i
+    ≡ value s (weights_at s period) m i) → (i : ℕ) → i < s.nodes → value s (weights_at s period) (m + d) i
+    ≡ value s (weights_at s period) m i
 
 -- constraint k is the first that ends at node j and brings it its value of m + 1
 pub record IsFirstFit (s : SystemData) (wt : ℕ → ℤ) (m j k : ℕ) : Type 0 where
@@ -28,8 +31,8 @@ pub record IsFirstFit (s : SystemData) (wt : ℕ → ℤ) (m j k : ℕ) : Type 0
   pub brings : value s wt m (arc s k).from +ℤ wt k ≡ value s wt (suc m) j
   pub first : (x : ℕ) → x < k → (arc s x).to ≡ j → value s wt m (arc s x).from +ℤ wt x ≡ value s wt (suc m) j → ⊥
 
--- the rule of the canonical closed walk: from the least node that grows in the last round the first constraint that fits,
--- step by step, up to the first node that comes again; the walk has the constraints between its two places
+-- the rule of the canonical closed walk: from the least node that grows in the last round the first constraint that
+-- fits, step by step, up to the first node that comes again; the walk has the constraints between its two places
 pub record IsCanonical (s : SystemData) (wt : ℕ → ℤ) (walk : WalkData) : Type 0 where
   pub node : ℕ → ℕ
   pub arc_of : ℕ → ℕ

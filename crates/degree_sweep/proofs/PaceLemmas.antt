@@ -42,9 +42,11 @@ pub record IsNext (rows : List DegreeRow) (row : DegreeRow) : Type 0 where
   pub rising : (other : DegreeRow) → Contains rows other → other.degree ≤ row.degree
 
 -- a row that isn't optimal changes nothing
-not_optimal : (rows : List DegreeRow) (best : Option Pace) (row : DegreeRow) → IsQuickest rows best → (row.verdict ≡ Optimal → ⊥) → IsQuickest (rows ++ row ∷ []) best
+not_optimal : (rows : List DegreeRow) (best : Option Pace) (row : DegreeRow) → IsQuickest rows best
+    → (row.verdict ≡ Optimal → ⊥) → IsQuickest (rows ++ row ∷ []) best
 not_optimal rows None row is not = λ other has optimal.
-    ⊎_elim (λ h. is other h optimal) (λ e. let P : DegreeRow → Type 0 = λ r. r.verdict ≡ Optimal in not (subst P (sym e) optimal)) (Contains-push_cases rows row other has)
+    ⊎_elim (λ h. is other h optimal) (λ e. let P : DegreeRow → Type 0 = λ r. r.verdict
+    ≡ Optimal in not (subst P (sym e) optimal)) (Contains-push_cases rows row other has)
 not_optimal rows (Some pace) row (a, best, degree, period) not = (
   a,
   record {
@@ -61,7 +63,8 @@ not_optimal rows (Some pace) row (a, best, degree, period) not = (
 
 -- the new row is best where it is before itself and all others
 new_best : (rows : List DegreeRow) (row : DegreeRow) (period : ℕ) → IsOptimal row period
-    → ((other : DegreeRow) (q : ℕ) → Contains rows other → IsOptimal other q → IsBefore row period other q) → IsBestRow (rows ++ row ∷ []) row
+    → ((other : DegreeRow) (q : ℕ) → Contains rows other → IsOptimal other q → IsBefore row period other q)
+    → IsBestRow (rows ++ row ∷ []) row
 new_best rows row period optimal before = record {
   there = Contains-append_right rows (row ∷ []) row (contains_first row []);
   period = period;
@@ -76,7 +79,8 @@ new_best rows row period optimal before = record {
 }
 
 -- the best stays where the new row isn't quicker
-stays_best : (rows : List DegreeRow) (row a : DegreeRow) (period : ℕ) (best : IsBestRow rows a) → IsOptimal row period → IsBefore a best.period row period
+stays_best : (rows : List DegreeRow) (row a : DegreeRow) (period : ℕ) (best : IsBestRow rows a) → IsOptimal row period
+    → IsBefore a best.period row period
     → IsBestRow (rows ++ row ∷ []) a
 stays_best rows row a period best optimal before = record {
   there = Contains-append_left rows (row ∷ []) a best.there;
@@ -95,8 +99,10 @@ stays_best rows row a period best optimal before = record {
 abbrev pace_with : DegreeRow → ℕ → Pace
 pace_with row period = record { degree = row.degree; period = period }
 
-either : (rows : List DegreeRow) (pace : Pace) (row : DegreeRow) (period : ℕ) (less : Bool) → is_less (pace_with row period) pace ≡ less → IsQuickest rows (Some pace)
-    → IsNext rows row → IsOptimal row period → IsQuickest (rows ++ row ∷ []) (cond less (Some (pace_with row period)) (Some pace))
+either : (rows : List DegreeRow) (pace : Pace) (row : DegreeRow) (period : ℕ) (less : Bool)
+    → is_less (pace_with row period) pace ≡ less → IsQuickest rows (Some pace)
+    → IsNext rows row → IsOptimal row period
+    → IsQuickest (rows ++ row ∷ []) (cond less (Some (pace_with row period)) (Some pace))
 either rows pace row period true test (a, best, degree, has) next optimal =
     let same : best.period ≡ pace.period = some_is best.period pace.period (sym best.optimal.1 ∙ has) in
     let lt : period * pace.degree < pace.period * row.degree = ltb-true (period * pace.degree) (pace.period * row.degree) test in
@@ -123,7 +129,8 @@ either rows pace row period false test (a, best, degree, has) next optimal =
     le_cases : (m n : ℕ) → m ≤ n → (m < n) ⊎ (m ≡ n)
     le_cases m n h = ⊎_elim (λ lt. inl lt) (λ ge. inr (omega (arith, h, ge))) (cases_lt m n)
 
-by_parts : (rows : List DegreeRow) (best : Option Pace) (row : DegreeRow) (v : Verdict) (p : Option ℕ) → row.verdict ≡ v → row.period ≡ p → IsQuickest rows best
+by_parts : (rows : List DegreeRow) (best : Option Pace) (row : DegreeRow) (v : Verdict) (p : Option ℕ) → row.verdict ≡ v
+    → row.period ≡ p → IsQuickest rows best
     → IsNext rows row → (row.verdict ≡ Optimal → (period : ℕ) × (row.period ≡ Some period))
     → IsQuickest (rows ++ row ∷ []) (quicker best (pace_by v p row.degree))
 by_parts rows None row Optimal (Some period) verdict has is next periods =
@@ -144,7 +151,8 @@ by_parts rows (Some pace) row Unfinished p verdict has is next periods =
 
 -- ---- row after row
 
-in_take : (rows : List DegreeRow) (i : ℕ) (other : DegreeRow) → HaveDegrees rows → Contains (take i rows) other → (1 ≤ other.degree) × (other.degree ≤ i) × Contains rows other
+in_take : (rows : List DegreeRow) (i : ℕ) (other : DegreeRow) → HaveDegrees rows → Contains (take i rows) other
+    → (1 ≤ other.degree) × (other.degree ≤ i) × Contains rows other
 in_take rows i other degrees (k, lt, is) =
     let count = length-take i rows in
     let below : k < i = omega (arith, lt, count) in
@@ -154,7 +162,8 @@ in_take rows i other degrees (k, lt, is) =
     (omega (arith, degree), omega (arith, degree, below), (k, within, at))
 
 -- the quickest of one row more
-one_more : (rows : List DegreeRow) (best : Option Pace) (i : ℕ) (row : DegreeRow) → i < length rows → row ≡ get_or rows i row → HavePeriods rows → HaveDegrees rows
+one_more : (rows : List DegreeRow) (best : Option Pace) (i : ℕ) (row : DegreeRow) → i < length rows
+    → row ≡ get_or rows i row → HavePeriods rows → HaveDegrees rows
     → IsQuickest (take i rows) best → IsQuickest (take (i + 1) rows) (quicker best (pace_of row))
 one_more rows best i row lt is periods degrees so_far =
     let degree : row.degree ≡ i + 1 = ap (λ (r : DegreeRow). r.degree) is ∙ degrees i row lt in
@@ -171,15 +180,18 @@ one_more rows best i row lt is periods degrees so_far =
     (periods row there))
 
 -- the same of what was reckoned
-pub next_row : (rows : List DegreeRow) (best : Option Pace) (i : ℕ) (none : DegreeRow) (pace new : Option Pace) → i < length rows → pace ≡ pace_of (get_or rows i none)
-    → new ≡ quicker best pace → HavePeriods rows → HaveDegrees rows → IsQuickest (take i rows) best → IsQuickest (take (i + 1) rows) new
+pub next_row : (rows : List DegreeRow) (best : Option Pace) (i : ℕ) (none : DegreeRow) (pace new : Option Pace)
+    → i < length rows → pace ≡ pace_of (get_or rows i none)
+    → new ≡ quicker best pace → HavePeriods rows → HaveDegrees rows → IsQuickest (take i rows) best
+    → IsQuickest (take (i + 1) rows) new
 next_row rows best i none pace new lt pace_is new_is periods degrees so_far =
     let row = get_or rows i none in
     let Q : Option Pace → Type 0 = λ b. IsQuickest (take (i + 1) rows) b in
     subst Q (sym (new_is ∙ ap (quicker best) pace_is)) (one_more rows best i row lt (get_or_default rows i none row lt) periods degrees so_far)
 
 -- the quickest of all rows tells the best degree
-pub best_some : (rows : List DegreeRow) (best : Option Pace) (i : ℕ) (pace : Pace) → length rows ≤ i → best ≡ Some pace → IsQuickest (take i rows) best
+pub best_some : (rows : List DegreeRow) (best : Option Pace) (i : ℕ) (pace : Pace) → length rows ≤ i → best ≡ Some pace
+    → IsQuickest (take i rows) best
     → IsBest rows (Some pace.degree)
 best_some rows best i pace le is so_far =
     let Q : Option Pace → Type 0 = λ b. IsQuickest (take i rows) b in
@@ -187,7 +199,8 @@ best_some rows best i pace le is so_far =
     let (row, first, degree, has) = subst R (take_all i rows le) (subst Q is so_far) in
     (row, first, degree)
 
-pub best_none : (rows : List DegreeRow) (best : Option Pace) (i : ℕ) → length rows ≤ i → best ≡ None → IsQuickest (take i rows) best → IsBest rows None
+pub best_none : (rows : List DegreeRow) (best : Option Pace) (i : ℕ) → length rows ≤ i → best ≡ None
+    → IsQuickest (take i rows) best → IsBest rows None
 best_none rows best i le is so_far =
     let Q : Option Pace → Type 0 = λ b. IsQuickest (take i rows) b in
     let R : List DegreeRow → Type 0 = λ rs. IsQuickest rs None in

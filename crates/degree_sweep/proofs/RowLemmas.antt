@@ -30,7 +30,8 @@ use Rattle.degree_sweep.proofs.PaceLemmas.{at_most, some_is}
 
 -- ---- one row more
 
-pub shown_more : (l : LineData) (budget i : ℕ) (rows : List DegreeRow) (row : DegreeRow) → length rows ≡ i → AreShown l budget rows → IsShown l budget (i + 1) row
+pub shown_more : (l : LineData) (budget i : ℕ) (rows : List DegreeRow) (row : DegreeRow) → length rows ≡ i
+    → AreShown l budget rows → IsShown l budget (i + 1) row
     → AreShown l budget (rows ++ row ∷ [])
 shown_more l budget i rows row count shown new k none lt =
     let long = length-append rows (row ∷ []) in
@@ -48,20 +49,23 @@ shown_more l budget i rows row count shown new k none lt =
 -- ---- what one row shows
 
 -- an optimal row has a period, which is its bound
-optimal_by : (l : LineData) (left bound : ℕ) (best : Option Solved) → verdict_by left best ≡ Optimal → (left ≡ 0 → bound ≡ cap_of l best)
+optimal_by : (l : LineData) (left bound : ℕ) (best : Option Solved) → verdict_by left best ≡ Optimal
+    → (left ≡ 0 → bound ≡ cap_of l best)
     → (period : ℕ) × (period_of best ≡ Some period) × (bound ≡ period)
 optimal_by l zero bound (Some s) e whole = (s.period, refl, whole refl)
 optimal_by l zero bound None e whole = absurd cc
 optimal_by l (suc left) bound best e whole = absurd cc
 
 -- where there is none, the bound is above all periods of the line
-nothing_by : (l : LineData) (left bound : ℕ) (best : Option Solved) → verdict_by left best ≡ Nothing → (left ≡ 0 → bound ≡ cap_of l best)
+nothing_by : (l : LineData) (left bound : ℕ) (best : Option Solved) → verdict_by left best ≡ Nothing
+    → (left ≡ 0 → bound ≡ cap_of l best)
     → bound ≡ l.max_period + 1
 nothing_by l zero bound (Some s) e whole = absurd cc
 nothing_by l zero bound None e whole = whole refl
 nothing_by l (suc left) bound best e whole = absurd cc
 
-optimal_shown : (l : LineData) (budget degree : ℕ) (row : DegreeRow) → IsShown l budget degree row → row.verdict ≡ Optimal
+optimal_shown : (l : LineData) (budget degree : ℕ) (row : DegreeRow) → IsShown l budget degree row
+    → row.verdict ≡ Optimal
     → (period : ℕ) × (row.period ≡ Some period) × (row.bound ≡ period)
 optimal_shown l budget degree row shown optimal =
     let o = shown.outcome in
@@ -70,7 +74,8 @@ optimal_shown l budget degree row shown optimal =
 
 -- ---- what all rows show
 
-placed : (l : LineData) (budget : ℕ) (rows : List DegreeRow) (row : DegreeRow) → AreShown l budget rows → Contains rows row
+placed : (l : LineData) (budget : ℕ) (rows : List DegreeRow) (row : DegreeRow) → AreShown l budget rows
+    → Contains rows row
     → (i : ℕ) × (i < length rows) × IsShown l budget (i + 1) row
 placed l budget rows row shown (i, lt, is) =
     let P : DegreeRow → Type 0 = λ r. IsShown l budget (i + 1) r in
@@ -85,7 +90,8 @@ have_periods l budget rows shown = λ row has optimal.
 pub have_degrees : (l : LineData) (budget : ℕ) (rows : List DegreeRow) → AreShown l budget rows → HaveDegrees rows
 have_degrees l budget rows shown = λ i none lt. (shown i none lt).degree
 
-pub are_rows : (l : LineData) (upto budget : ℕ) (rows : List DegreeRow) → length rows ≡ upto → AreShown l budget rows → AreRows l upto budget rows
+pub are_rows : (l : LineData) (upto budget : ℕ) (rows : List DegreeRow) → length rows ≡ upto → AreShown l budget rows
+    → AreRows l upto budget rows
 are_rows l upto budget rows count shown = record {
   count = count;
   each = λ i none lt.
@@ -101,7 +107,8 @@ are_rows l upto budget rows count shown = record {
       };
 }
 
-bound_shown : (l : LineData) (budget degree : ℕ) (row : DegreeRow) → IsShown l budget degree row → NoneBelow (with_degree l degree) row.bound
+bound_shown : (l : LineData) (budget degree : ℕ) (row : DegreeRow) → IsShown l budget degree row
+    → NoneBelow (with_degree l degree) row.bound
 bound_shown l budget degree row shown = λ t legal. omega (arith, shown.searched.none_below t legal, shown.bound)
 
 pub are_bounds : (l : LineData) (budget : ℕ) (rows : List DegreeRow) → AreShown l budget rows → AreBounds l rows
@@ -113,7 +120,8 @@ are_bounds l budget rows shown = λ row has.
 -- ---- the best of a settled sweep
 
 -- the row of a degree
-row_at : (l : LineData) (budget degree : ℕ) (rows : List DegreeRow) → AreShown l budget rows → 1 ≤ degree → degree ≤ length rows
+row_at : (l : LineData) (budget degree : ℕ) (rows : List DegreeRow) → AreShown l budget rows → 1 ≤ degree
+    → degree ≤ length rows
     → (row : DegreeRow) × Contains rows row × IsShown l budget degree row
 row_at l budget degree [] shown some most = absurd (omega (arith, some, most))
 row_at l budget degree (r ∷ rows) shown some most =
@@ -125,7 +133,8 @@ row_at l budget degree (r ∷ rows) shown some most =
     (row, (i, lt, get_or_default (r ∷ rows) i row r lt), subst S is (shown i r lt))
 
 -- by the verdict of the row of a timetable's degree
-settled_by : (l : LineData) (budget degree : ℕ) (row best : DegreeRow) (period : ℕ) (t : Timetable) (v : Verdict) → row.verdict ≡ v → is_known v ≡ true
+settled_by : (l : LineData) (budget degree : ℕ) (row best : DegreeRow) (period : ℕ) (t : Timetable) (v : Verdict)
+    → row.verdict ≡ v → is_known v ≡ true
     → IsShown l budget degree row → ((q : ℕ) → IsOptimal row q → period * row.degree ≤ q * best.degree)
     → IsLegal (with_degree l degree) t → t.period ≤ l.max_period → period * degree ≤ t.period * best.degree
 settled_by l budget degree row best period t Optimal verdict known shown before legal small =
@@ -141,7 +150,8 @@ settled_by l budget degree row best period t Nothing verdict known shown before 
     absurd (omega (arith, shown.searched.none_below t legal, above, small))
 settled_by l budget degree row best period t Unfinished verdict known shown before legal small = absurd cc
 
-same_degree : (l : LineData) (budget : ℕ) (rows : List DegreeRow) (a b : DegreeRow) → AreShown l budget rows → Contains rows a → Contains rows b
+same_degree : (l : LineData) (budget : ℕ) (rows : List DegreeRow) (a b : DegreeRow) → AreShown l budget rows
+    → Contains rows a → Contains rows b
     → a.degree ≡ b.degree → a ≡ b
 same_degree l budget rows a b shown (i, lt, is) (k, lt', is') same =
     let P : DegreeRow → Type 0 = λ r. r.degree ≡ i + 1 in
@@ -151,12 +161,14 @@ same_degree l budget rows a b shown (i, lt, is) (k, lt', is') same =
     let at : i ≡ k = omega (arith, da, db, same) in
     sym is ∙ ap (λ (n : ℕ). get_or rows n a) at ∙ get_or_default rows k a b lt' ∙ is'
 
-all_known : (rows : List DegreeRow) (row : DegreeRow) → is_settled rows ≡ true → Contains rows row → is_known row.verdict ≡ true
+all_known : (rows : List DegreeRow) (row : DegreeRow) → is_settled rows ≡ true → Contains rows row
+    → is_known row.verdict ≡ true
 all_known rows row settled (k, lt, is) =
     let P : DegreeRow → Type 0 = λ r. is_known r.verdict ≡ true in
     subst P is (AllPass-from_list_all (λ (r : DegreeRow). is_known r.verdict) rows settled k row lt)
 
-pub is_least : (l : LineData) (upto budget : ℕ) (swept : Swept) → length swept.rows ≡ upto → AreShown l budget swept.rows → IsBest swept.rows swept.best
+pub is_least : (l : LineData) (upto budget : ℕ) (swept : Swept) → length swept.rows ≡ upto
+    → AreShown l budget swept.rows → IsBest swept.rows swept.best
     → IsLeastSwept l upto swept
 is_least l upto budget swept count shown is = λ best period row settled has there degree period_is d t some most legal small.
     let B : Option ℕ → Type 0 = λ b. IsBest swept.rows b in
@@ -186,7 +198,8 @@ row_of l budget degree row is =
     ∙ ap (λ (n : ℕ). row_by degree (verdict_of o) o.bound n row.period) is.splits
     ∙ ap (λ (p : Option ℕ). row_by degree (verdict_of o) o.bound o.splits p) is.period
 
-row_is_one : (l : LineData) (budget degree : ℕ) (row row' : DegreeRow) → IsLine l → 1 ≤ degree → degree ≤ max_degree → budget ≤ 20000 → IsRow l budget degree row
+row_is_one : (l : LineData) (budget degree : ℕ) (row row' : DegreeRow) → IsLine l → 1 ≤ degree → degree ≤ max_degree
+    → budget ≤ 20000 → IsRow l budget degree row
     → IsRow l budget degree row' → row ≡ row'
 row_is_one l budget degree row row' line some most small is is' =
     let valid = of_degree_line l degree line (some, most) in
@@ -195,7 +208,8 @@ row_is_one l budget degree row row' line some most small is is' =
     ∙ ap (λ (o : Outcome). row_by degree (verdict_of o) o.bound o.splits (period_of o.best)) same
     ∙ sym (row_of l budget degree row' is')
 
-rows_are_one : (l : LineData) (upto budget : ℕ) (rows rows' : List DegreeRow) → IsLine l → upto ≤ max_degree → budget ≤ 20000 → AreRows l upto budget rows
+rows_are_one : (l : LineData) (upto budget : ℕ) (rows rows' : List DegreeRow) → IsLine l → upto ≤ max_degree
+    → budget ≤ 20000 → AreRows l upto budget rows
     → AreRows l upto budget rows' → rows ≡ rows'
 rows_are_one l upto budget rows rows' line most small are are' =
     let none : DegreeRow = row_by 0 Nothing 0 0 None in

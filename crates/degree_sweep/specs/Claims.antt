@@ -24,11 +24,12 @@ is_known Unfinished = false
 abbrev pub is_settled : List DegreeRow → Bool
 is_settled rows = list_all (λ (row : DegreeRow). is_known row.verdict) rows
 
--- no legal timetable of a degree up to upto, with a period that the line allows, has less period for each carrier than the
--- best of a settled sweep
+-- no legal timetable of a degree up to upto, with a period that the line allows, has less period for each carrier than
+-- the best of a settled sweep
 abbrev pub IsLeastSwept : LineData → ℕ → Swept → Type 0
 IsLeastSwept l upto swept =
     (best period : ℕ) (row : DegreeRow) → is_settled swept.rows ≡ true → swept.best ≡ Some best
     → Contains swept.rows row → row.degree ≡ best → row.period ≡ Some period
-    → (degree : ℕ) (t : Timetable) → 1 ≤ degree → degree ≤ upto → IsLegal (with_degree l degree) t → t.period ≤ l.max_period
+    → (degree : ℕ) (t : Timetable) → 1 ≤ degree → degree ≤ upto → IsLegal (with_degree l degree) t
+    → t.period ≤ l.max_period
     → period * degree ≤ t.period * best

@@ -47,7 +47,8 @@ pub record IsBestRow (rows : List DegreeRow) (row : DegreeRow) : Type 0 where
   pub there : Contains rows row
   pub period : ℕ
   pub optimal : IsOptimal row period
-  pub first : (other : DegreeRow) (other_period : ℕ) → Contains rows other → IsOptimal other other_period → IsBefore row period other other_period
+  pub first : (other : DegreeRow) (other_period : ℕ) → Contains rows other → IsOptimal other other_period
+      → IsBefore row period other other_period
 
 -- no row is optimal
 abbrev pub NoneOptimal : List DegreeRow → Type 0

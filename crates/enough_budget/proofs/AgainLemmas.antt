@@ -64,7 +64,8 @@ not_assigned (d ∷ ds) m (suc i) lt e none =
 -- ---- orders
 
 -- y is late enough after x, so that it isn't too early
-late_enough : (x y e b ahead back : ℤ) → back ≡ neg_ℤ ahead → (x +ℤ ((e -ℤ b) +ℤ back)) ≤ℤ y → ((y +ℤ b) +ℤ ahead) <ℤ (x +ℤ e) → ⊥
+late_enough : (x y e b ahead back : ℤ) → back ≡ neg_ℤ ahead → (x +ℤ ((e -ℤ b) +ℤ back)) ≤ℤ y
+    → ((y +ℤ b) +ℤ ahead) <ℤ (x +ℤ e) → ⊥
 late_enough x y e b ahead back is keeps early = omega (arith, ints, is, keeps, early)
 
 -- the same where x comes later
@@ -72,7 +73,8 @@ turned : (x y e b ahead on : ℤ) → on ≡ ahead → (x +ℤ ((e -ℤ b) +ℤ 
 turned x y e b ahead on is keeps late = omega (arith, ints, is, keeps, late)
 
 -- ticks that keep a decided order of visits don't leave it open
-tanks_kept : (l : LineData) (path : List Decision) (s : ℕ → ℤ) (period : ℕ) (a b : VisitId) (q : ℤ) (child : ℕ) → child < 2
+tanks_kept : (l : LineData) (path : List Decision) (s : ℕ → ℤ) (period : ℕ) (a b : VisitId) (q : ℤ) (child : ℕ)
+    → child < 2
     → Keeps s period (tank_arc l path a b q child) → HoldTogether l (low l path) s period a b q → ⊥
 tanks_kept l path s period a b q child few keeps fails =
     let first = moment_arc l (end_of l (low l path) a.carrier a.stage) (begin_of l (low l path) b.carrier b.stage) q in
@@ -88,7 +90,8 @@ tanks_kept l path s period a b q child few keeps fails =
     turned _ _ _ _ (q *ℤ pos period) (neg_ℤ (neg_ℤ q) *ℤ pos period) back (subst P is keeps) fails.1)
     (cases_eq child 0)
 
-not_before : (x y after ahead back : ℤ) → back ≡ neg_ℤ ahead → (x +ℤ (after +ℤ back)) ≤ℤ y → ((y +ℤ ahead) -ℤ x) <ℤ after → ⊥
+not_before : (x y after ahead back : ℤ) → back ≡ neg_ℤ ahead → (x +ℤ (after +ℤ back)) ≤ℤ y
+    → ((y +ℤ ahead) -ℤ x) <ℤ after → ⊥
 not_before x y after ahead back is keeps early = omega (arith, ints, is, keeps, early)
 
 not_after : (x y before ahead : ℤ) → (y +ℤ (before +ℤ ahead)) ≤ℤ x → neg_ℤ before <ℤ ((y +ℤ ahead) -ℤ x) → ⊥
@@ -97,7 +100,8 @@ not_after x y before ahead keeps late = omega (arith, ints, keeps, late)
 -- nor do they leave a decided order of moves open
 spans_kept : (l : LineData) (s : ℕ → ℤ) (period : ℕ) (a b : MoveId) (q : ℤ) (child : ℕ) (o : Option Span) → child < 2
     → Keeps s period (span_arc l a b q child o)
-    → IsSomeAnd o (λ span. (neg_ℤ span.before <ℤ offset_of l s period a b q) × (offset_of l s period a b q <ℤ span.after)) → ⊥
+    → IsSomeAnd o (λ span. (neg_ℤ span.before <ℤ offset_of l s period a b q) × (offset_of l s period a b q <ℤ span.after))
+    → ⊥
 spans_kept l s period a b q child None few keeps fails = absurd fails
 spans_kept l s period a b q child (Some span) few keeps fails =
     let first : Arc =
@@ -114,16 +118,20 @@ spans_kept l s period a b q child (Some span) few keeps fails =
     (cases_eq child 0)
 
 -- what the ticks keep of decision i
-decided_kept : (l : LineData) (path : List Decision) (s : ℕ → ℤ) (period i : ℕ) (question : Question) → KeepsAll l path s period → i < length path
-    → (decision_at path i).question ≡ question → IsOrder question → Keeps s period (decided_arc l path question (decision_at path i).child)
+decided_kept : (l : LineData) (path : List Decision) (s : ℕ → ℤ) (period i : ℕ) (question : Question)
+    → KeepsAll l path s period → i < length path
+    → (decision_at path i).question ≡ question → IsOrder question
+    → Keeps s period (decided_arc l path question (decision_at path i).child)
 decided_kept l path s period i question keeps lt e order =
     let P : Question → Type 0 = λ x. IsOrder x in
     let K : Question → Type 0 = λ x. Keeps s period (decided_arc l path x (decision_at path i).child) in
     subst K e (keeps (Decided i) (lt, subst P (sym e) order))
 
 -- an order has two children
-two_children : (l : LineData) (path : List Decision) (i : ℕ) (question : Question) → IsAskedPath l path → i < length path
-    → (decision_at path i).question ≡ question → ((ds : List Decision) → child_count l ds question ≡ 2) → (decision_at path i).child < 2
+two_children : (l : LineData) (path : List Decision) (i : ℕ) (question : Question) → IsAskedPath l path
+    → i < length path
+    → (decision_at path i).question ≡ question → ((ds : List Decision) → child_count l ds question ≡ 2)
+    → (decision_at path i).child < 2
 two_children l path i question h lt e two =
     let P : Question → Type 0 = λ x. (decision_at path i).child < child_count l (take i path) x in
     omega (arith, subst P e (h i lt).child, two (take i path))
@@ -134,7 +142,8 @@ never_again l path (Assign m) i line h asked lt e = not_assigned path m i lt e a
 never_again l path (TankOrder a b q) i line h asked lt e =
     let keeps = keeps_all l path (tick_at asked.ticks) asked.period line asked.solution.solves in
     let kept = decided_kept l path (tick_at asked.ticks) asked.period i (TankOrder a b q) keeps lt e tt in
-    tanks_kept l path (tick_at asked.ticks) asked.period a b q (decision_at path i).child (two_children l path i (TankOrder a b q) h lt e (λ ds. refl)) kept asked.first.1
+    tanks_kept l path (tick_at asked.ticks) asked.period a b q (decision_at path i).child
+    (two_children l path i (TankOrder a b q) h lt e (λ ds. refl)) kept asked.first.1
 never_again l path (HoistOrder a b q) i line h asked lt e =
     let keeps = keeps_all l path (tick_at asked.ticks) asked.period line asked.solution.solves in
     let kept = decided_kept l path (tick_at asked.ticks) asked.period i (HoistOrder a b q) keeps lt e tt in

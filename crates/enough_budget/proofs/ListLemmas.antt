@@ -34,7 +34,8 @@ without {A = A} (z ∷ zs) x h =
     h
 
 -- so many different elements of a list are no more than it has
-pub few_different : {A : Type 0} (f : ℕ → A) (n : ℕ) (xs : List A) → ((i j : ℕ) → i < j → j < n → f i ≡ f j → ⊥) → ((i : ℕ) → i < n → In xs (f i))
+pub few_different : {A : Type 0} (f : ℕ → A) (n : ℕ) (xs : List A) → ((i j : ℕ) → i < j → j < n → f i ≡ f j → ⊥)
+    → ((i : ℕ) → i < n → In xs (f i))
     → n ≤ length xs
 few_different f zero xs differ there = omega arith
 few_different f (suc n) xs differ there =
@@ -54,7 +55,8 @@ in_got (y ∷ ys) (suc n) x e = inr (in_got ys n x e)
 
 -- ---- how long a list is, and how great its numbers
 
-pub rows_length : {A B : Type 0} (row : A → List B) (n : ℕ) (xs : List A) → ((x : A) → length (row x) ≡ n) → length (flat_map row xs) ≡ length xs * n
+pub rows_length : {A B : Type 0} (row : A → List B) (n : ℕ) (xs : List A) → ((x : A) → length (row x) ≡ n)
+    → length (flat_map row xs) ≡ length xs * n
 rows_length row n [] each = omega arith
 rows_length row n (x ∷ xs) each = omega (arith, length-append (row x) (flat_map row xs), each x, rows_length row n xs each)
 

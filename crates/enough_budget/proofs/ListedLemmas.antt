@@ -118,7 +118,8 @@ numbers_rise c k c' k' m small before =
 
 -- ---- choices of tanks
 
-choose_listed : (l : LineData) (v : VisitId) → IsVisit l v.carrier v.stage → 2 ≤ length (stage l v.stage).tanks → In (choices l) (Choose v)
+choose_listed : (l : LineData) (v : VisitId) → IsVisit l v.carrier v.stage → 2 ≤ length (stage l v.stage).tanks
+    → In (choices l) (Choose v)
 choose_listed l v visit several =
     let i = visit_number l v.carrier v.stage in
     let is = visit_named l v visit in
@@ -133,7 +134,8 @@ choose_listed l v visit several =
 -- ---- hoists of moves
 
 -- a motion that a path settles is one of its step's
-motion_listed : (l : LineData) (path : List Decision) (c k : ℕ) (m : Motion) → FitsPath l path → motion_below l path c k ≡ Some m → In (motions_of l k) m
+motion_listed : (l : LineData) (path : List Decision) (c k : ℕ) (m : Motion) → FitsPath l path
+    → motion_below l path c k ≡ Some m → In (motions_of l k) m
 motion_listed l path c k m fits e =
     let r = settled_motion l path c k m e in
     let from = in_contains (stage l k).tanks r.from (tank_serves l path c k r.from fits r.first) in
@@ -170,7 +172,8 @@ share_yes : (s t : Stage) (i : ℕ) → In s.tanks i → In t.tanks i → share 
 share_yes s t i here there =
     any_in (λ x. list_any (λ y. x == y) t.tanks) s.tanks i here (any_in (λ y. i == y) t.tanks i there (eq-eqb i i refl))
 
-tanks_listed : (l : LineData) (path : List Decision) (a b : VisitId) (q : ℤ) → FitsPath l path → ShareTank l path a b → unsigned_abs q ≤ greatest_shift l
+tanks_listed : (l : LineData) (path : List Decision) (a b : VisitId) (q : ℤ) → FitsPath l path → ShareTank l path a b
+    → unsigned_abs q ≤ greatest_shift l
     → In (tank_orders l) (TankOrder a b q)
 tanks_listed l path a b q fits stands small =
     let i = visit_number l a.carrier a.stage in
@@ -203,7 +206,8 @@ hoist_there (x ∷ y ∷ ys) None h e = cc
 hoist_there (x ∷ y ∷ ys) (Some n) h e = in_got (x ∷ y ∷ ys) n h e
 
 -- a ride that a path settles is one of its step's
-ride_listed : (l : LineData) (path : List Decision) (c k : ℕ) (r : Ride) → FitsPath l path → ride_below l path c k ≡ Some r → In (rides_of l k) r
+ride_listed : (l : LineData) (path : List Decision) (c k : ℕ) (r : Ride) → FitsPath l path
+    → ride_below l path c k ≡ Some r → In (rides_of l k) r
 ride_listed l path c k r fits e =
     let s = settled_ride l path c k r e in
     let row : Motion → List Ride = λ m. map (λ h. record { motion = m; hoist = h }) (hoists_reaching l m) in
@@ -212,7 +216,8 @@ ride_listed l path c k r fits e =
     (hoist_there (hoists_reaching l r.motion) (assigned_of path c k) r.hoist s.hoist))
 
 -- the sizes of a clash below a path are no greater than the greatest
-size_listed : (l : LineData) (path : List Decision) (a b : MoveId) (span : Span) (n : ℕ) → FitsPath l path → MayClash l path a b
+size_listed : (l : LineData) (path : List Decision) (a b : MoveId) (span : Span) (n : ℕ) → FitsPath l path
+    → MayClash l path a b
     → clash_below l path a b ≡ Some span → In (sizes_of (Some span)) n → n ≤ greatest_size l
 size_listed l path a b span n fits stands e size =
     let i = move_number l a.carrier a.step in
@@ -235,7 +240,8 @@ size_listed l path a b span n fits stands e size =
     (move_below l b.carrier b.step stands.second) in
     in_greatest (flat_map pair (pairs (move_count l))) n (in_flat_map pair (pairs (move_count l)) (i, j) n there here)
 
-hoists_listed : (l : LineData) (path : List Decision) (a b : MoveId) (q : ℤ) → MayClash l path a b → unsigned_abs q ≤ greatest_shift l
+hoists_listed : (l : LineData) (path : List Decision) (a b : MoveId) (q : ℤ) → MayClash l path a b
+    → unsigned_abs q ≤ greatest_shift l
     → In (hoist_orders l) (HoistOrder a b q)
 hoists_listed l path a b q stands small =
     let i = move_number l a.carrier a.step in
@@ -259,7 +265,8 @@ open_span (Some span) P h = (span, refl, h)
 
 -- ---- all questions
 
-pub listed : (l : LineData) (path : List Decision) (question : Question) → IsLine l → IsAskedPath l path → IsAskedBelow l path question
+pub listed : (l : LineData) (path : List Decision) (question : Question) → IsLine l → IsAskedPath l path
+    → IsAskedBelow l path question
     → In (all_questions l) question
 listed l path (Choose v) line h asked =
     in_left (choices l) (assigns l ++ (tank_orders l ++ hoist_orders l)) (Choose v)

@@ -29,7 +29,8 @@ use Rattle.node_expand.proofs.SettledLemmas.{some_is, some_one}
 -- ---- tanks
 
 -- where the first question isn't a choice of a tank, each visit has one
-pub one_tank : (l : LineData) (path : List Decision) (s : ℕ → ℤ) (period : ℕ) (x : Question) → IsLine l → IsFirstQuestion l path s period (Some x)
+pub one_tank : (l : LineData) (path : List Decision) (s : ℕ → ℤ) (period : ℕ) (x : Question) → IsLine l
+    → IsFirstQuestion l path s period (Some x)
     → 0 < kind_of x → HasTanks l path
 one_tank l path s period x line first later c k visit =
     some_is (tank_below l path c k) _
@@ -49,7 +50,8 @@ record Lasts (l : LineData) (path : List Decision) (period c k : ℕ) : Type 0 w
   some : (stage l k).lift + (stage l (k + 1)).lower ≤ low l path c k
   most : low l path c k ≤ period
 
-lasts : (l : LineData) (path : List Decision) (s : ℕ → ℤ) (period c k : ℕ) → HasTanks l path → KeepsAll l path s period → IsMove l c k
+lasts : (l : LineData) (path : List Decision) (s : ℕ → ℤ) (period c k : ℕ) → HasTanks l path → KeepsAll l path s period
+    → IsMove l c k
     → Lasts l path period c k
 lasts l path s period c k tanks keeps move =
     let from = some_one (tank_below l path c k) (tanks c k (move.0, omega (arith, move.1))) in
@@ -63,7 +65,8 @@ lasts l path s period c k tanks keeps move =
     record { one = at_most ∙ sym at_least; some = omega (arith, at_least); most = omega (arith, ints, kept, there, at_least) }
 
 -- so the period is no less than 1
-pub some_period : (l : LineData) (path : List Decision) (s : ℕ → ℤ) (period c k : ℕ) → IsLine l → HasTanks l path → KeepsAll l path s period → IsMove l c k
+pub some_period : (l : LineData) (path : List Decision) (s : ℕ → ℤ) (period c k : ℕ) → IsLine l → HasTanks l path
+    → KeepsAll l path s period → IsMove l c k
     → 1 ≤ period
 some_period l path s period c k line tanks keeps move =
     let long = lasts l path s period c k tanks keeps move in
@@ -71,7 +74,8 @@ some_period l path s period c k line tanks keeps move =
 
 -- ---- moves
 
-step_near : (l : LineData) (path : List Decision) (s : ℕ → ℤ) (period c k : ℕ) → IsLine l → HasTanks l path → KeepsAll l path s period → c < l.degree
+step_near : (l : LineData) (path : List Decision) (s : ℕ → ℤ) (period c k : ℕ) → IsLine l → HasTanks l path
+    → KeepsAll l path s period → c < l.degree
     → 1 ≤ k → k ≤ last_step l → at_move l s c k ≤ℤ (at_move l s c (k - 1) +ℤ pos (2 * period))
 step_near l path s period c k line tanks keeps lt some few =
     let inner : k ≡ last_stage l → ⊥ = λ e. omega (arith, e, few, line.limits.stages.0) in
@@ -89,7 +93,8 @@ step_near l path s period c k line tanks keeps lt some few =
     let before = lasts l path s period c (k - 1) tanks keeps (lt, omega (arith, some, few, line.limits.stages.0)) in
     omega (arith, ints, kept, before.one, before.most)
 
-carrier_near : (l : LineData) (path : List Decision) (s : ℕ → ℤ) (period c k : ℕ) → IsLine l → HasTanks l path → KeepsAll l path s period → c < l.degree
+carrier_near : (l : LineData) (path : List Decision) (s : ℕ → ℤ) (period c k : ℕ) → IsLine l → HasTanks l path
+    → KeepsAll l path s period → c < l.degree
     → k ≤ last_step l → at_move l s c k ≤ℤ (at_move l s c 0 +ℤ pos (k * (2 * period)))
 carrier_near l path s period c zero line tanks keeps lt few = omega (arith, ints)
 carrier_near l path s period c (suc k) line tanks keeps lt few =
@@ -104,7 +109,8 @@ carrier_near l path s period c (suc k) line tanks keeps lt few =
     )
 
 -- every move starts at the first move or later, and not many periods later
-pub move_near : (l : LineData) (path : List Decision) (s : ℕ → ℤ) (period c k : ℕ) → IsLine l → HasTanks l path → KeepsAll l path s period → IsMove l c k
+pub move_near : (l : LineData) (path : List Decision) (s : ℕ → ℤ) (period c k : ℕ) → IsLine l → HasTanks l path
+    → KeepsAll l path s period → IsMove l c k
     → (s 0 ≤ℤ at_move l s c k) × (at_move l s c k ≤ℤ (s 0 +ℤ pos (period + last_step l * (2 * period))))
 move_near l path s period c k line tanks keeps move =
     let few : k ≤ last_step l = omega (arith, move.1) in
@@ -116,7 +122,8 @@ move_near l path s period c k line tanks keeps move =
 
 -- ---- loads and unloads
 
-load_small : (l : LineData) (path : List Decision) (s : ℕ → ℤ) (period : ℕ) → IsLine l → KeepsAll l path s period → l.load ≤ period
+load_small : (l : LineData) (path : List Decision) (s : ℕ → ℤ) (period : ℕ) → IsLine l → KeepsAll l path s period
+    → l.load ≤ period
 load_small l path s period line keeps =
     let c = l.degree - 1 in
     let e : c + 1 ≡ l.degree = omega (arith, line.limits.degree.0) in
@@ -127,7 +134,8 @@ load_small l path s period line keeps =
     let kept : Keeps s period last = subst P is (keeps (Entry c) (omega (arith, e))) in
     omega (arith, ints, kept, (first_spread l path s period c keeps (omega (arith, e))).0)
 
-unload_small : (l : LineData) (path : List Decision) (s : ℕ → ℤ) (period : ℕ) → IsLine l → KeepsAll l path s period → l.unload ≤ period
+unload_small : (l : LineData) (path : List Decision) (s : ℕ → ℤ) (period : ℕ) → IsLine l → KeepsAll l path s period
+    → l.unload ≤ period
 unload_small l path s period line keeps =
     let k = last_stage l in
     let n = move_number l 0 (last_step l) in
@@ -147,7 +155,8 @@ unload_small l path s period line keeps =
 -- ---- holds
 
 -- no hold begins more than a period before the first move
-pub begin_near : (l : LineData) (path : List Decision) (s : ℕ → ℤ) (period c k : ℕ) → IsLine l → HasTanks l path → KeepsAll l path s period → IsVisit l c k
+pub begin_near : (l : LineData) (path : List Decision) (s : ℕ → ℤ) (period c k : ℕ) → IsLine l → HasTanks l path
+    → KeepsAll l path s period → IsVisit l c k
     → s 0 ≤ℤ (tick_of l s (begin_of l (low l path) c k) +ℤ pos period)
 begin_near l path s period c k line tanks keeps visit =
     let at_load : Moment = record { carrier = c; step = 0; fixed = neg_ℤ (pos l.load) } in
@@ -171,7 +180,8 @@ begin_near l path s period c k line tanks keeps visit =
     (cases_eq k 0)
 
 -- and none ends many periods after it
-pub end_near : (l : LineData) (path : List Decision) (s : ℕ → ℤ) (period c k : ℕ) → IsLine l → HasTanks l path → KeepsAll l path s period → IsVisit l c k
+pub end_near : (l : LineData) (path : List Decision) (s : ℕ → ℤ) (period c k : ℕ) → IsLine l → HasTanks l path
+    → KeepsAll l path s period → IsVisit l c k
     → tick_of l s (end_of l (low l path) c k) ≤ℤ (s 0 +ℤ pos (3 * period + last_step l * (2 * period)))
 end_near l path s period c k line tanks keeps visit =
     let at_unload : Moment = record { carrier = c; step = last_step l; fixed = pos (low l path c (last_step l) + l.unload) } in

@@ -29,7 +29,8 @@ use Rattle.enough_budget.proofs.ListedLemmas.{all_questions, questions_length, l
 
 -- ---- one decision more, and fewer
 
-pub asked_more : (l : LineData) (path : List Decision) (d : Decision) → IsAskedPath l path → IsAskedDecision l path d → IsAskedPath l (path ++ d ∷ [])
+pub asked_more : (l : LineData) (path : List Decision) (d : Decision) → IsAskedPath l path → IsAskedDecision l path d
+    → IsAskedPath l (path ++ d ∷ [])
 asked_more l path d asked last = λ i lt.
     ⊎_elim
     (λ below.
@@ -90,7 +91,8 @@ few_hoists l (Some m) =
     let hoists = numbers_from 0 l.hoists in
     omega (arith, length-filter reaches hoists, count_by-le-length reaches hoists, length-numbers_from 0 l.hoists)
 
-few_children : (l : LineData) (path : List Decision) (question : Question) → IsAskedBelow l path question → child_count l path question ≤ most_children l
+few_children : (l : LineData) (path : List Decision) (question : Question) → IsAskedBelow l path question
+    → child_count l path question ≤ most_children l
 few_children l path (Assign m) below = omega (arith, few_hoists l (motion_below l path m.carrier m.step))
 few_children l path (TankOrder a b q) below = omega arith
 few_children l path (HoistOrder a b q) below = omega arith

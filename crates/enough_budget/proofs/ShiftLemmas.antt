@@ -18,7 +18,8 @@ use Rattle.node_expand.specs.Settled.{HasTanks}
 use Rattle.enough_budget.proofs.NearLemmas.{move_near, begin_near, end_near}
 
 -- fewer ticks than so many periods are fewer periods
-few_periods : (q : ℤ) (period most : ℕ) → (q *ℤ pos period) <ℤ pos (most * period) → neg_ℤ (pos (most * period)) <ℤ (q *ℤ pos period)
+few_periods : (q : ℤ) (period most : ℕ) → (q *ℤ pos period) <ℤ pos (most * period)
+    → neg_ℤ (pos (most * period)) <ℤ (q *ℤ pos period)
     → unsigned_abs q < most
 few_periods q period most below above =
     let all : pos most *ℤ pos period ≡ pos (most * period) = omega (arith, ints) in
@@ -30,22 +31,27 @@ few_periods q period most below above =
     (λ ge. absurd (omega (arith, ints, below, all, times_mono (pos most) q period ge)))
 
 -- two visits that hold their tank at one tick
-pub tank_shift : (l : LineData) (path : List Decision) (s : ℕ → ℤ) (period : ℕ) (a b : VisitId) (q : ℤ) → IsLine l → HasTanks l path
+pub tank_shift : (l : LineData) (path : List Decision) (s : ℕ → ℤ) (period : ℕ) (a b : VisitId) (q : ℤ) → IsLine l
+    → HasTanks l path
     → KeepsAll l path s period
-    → IsVisit l a.carrier a.stage → IsVisit l b.carrier b.stage → HoldTogether l (low l path) s period a b q → unsigned_abs q ≤ 2 * last_step l + 3
+    → IsVisit l a.carrier a.stage → IsVisit l b.carrier b.stage → HoldTogether l (low l path) s period a b q
+    → unsigned_abs q ≤ 2 * last_step l + 3
 tank_shift l path s period a b q line tanks keeps first second fails =
     let begin_a = begin_near l path s period a.carrier a.stage line tanks keeps first in
     let begin_b = begin_near l path s period b.carrier b.stage line tanks keeps second in
     let end_a = end_near l path s period a.carrier a.stage line tanks keeps first in
     let end_b = end_near l path s period b.carrier b.stage line tanks keeps second in
     let all : (2 * last_step l + 4) * period ≡ last_step l * (2 * period) + 4 * period = omega arith in
-    let few = few_periods q period (2 * last_step l + 4) (omega (arith, ints, fails.0, begin_b, end_a, all)) (omega (arith, ints, fails.1, begin_a, end_b, all)) in
+    let few = few_periods q period (2 * last_step l + 4) (omega (arith, ints, fails.0, begin_b, end_a, all))
+    (omega (arith, ints, fails.1, begin_a, end_b, all)) in
     omega (arith, few)
 
 -- two moves that clash
-pub hoist_shift : (l : LineData) (path : List Decision) (s : ℕ → ℤ) (period : ℕ) (a b : MoveId) (q : ℤ) (span : Span) (size : ℕ) → IsLine l → HasTanks l path
+pub hoist_shift : (l : LineData) (path : List Decision) (s : ℕ → ℤ) (period : ℕ) (a b : MoveId) (q : ℤ) (span : Span) (size : ℕ)
+    → IsLine l → HasTanks l path
     → KeepsAll l path s period
-    → 1 ≤ period → IsMove l a.carrier a.step → IsMove l b.carrier b.step → unsigned_abs span.after ≤ size → unsigned_abs span.before ≤ size
+    → 1 ≤ period → IsMove l a.carrier a.step → IsMove l b.carrier b.step → unsigned_abs span.after ≤ size
+    → unsigned_abs span.before ≤ size
     → neg_ℤ span.before <ℤ offset_of l s period a b q → offset_of l s period a b q <ℤ span.after
     → unsigned_abs q ≤ 2 * last_step l + 3 + size
 hoist_shift l path s period a b q span size line tanks keeps some first second after before above below =

@@ -11,7 +11,8 @@ use Rattle.path_constraints.specs.Ticks.{tick_at}
 use Rattle.period_constraints.specs.Order.{IsFirstQuestion}
 use Rattle.node_expand.specs.Expansion.{NoneStuck}
 
--- the question is the first that the least ticks at some period leave open below the path, where some hoist may reach every move
+-- the question is the first that the least ticks at some period leave open below the path, where some hoist may reach
+-- every move
 pub record IsAskedBelow (l : LineData) (path : List Decision) (question : Question) : Type 0 where
   pub free : NoneStuck l path
   pub period : ℕ

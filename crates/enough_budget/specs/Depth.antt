@@ -61,8 +61,8 @@ greatest_shift l = 2 * last_step l + 3 + greatest_size l
 
 -- ---- the depth
 
--- of how many visits a tank is chosen, to how many moves a hoist is assigned, and between how many pairs of visits with a tank
--- in common and of moves there may be an order
+-- of how many visits a tank is chosen, to how many moves a hoist is assigned, and between how many pairs of visits with
+-- a tank in common and of moves there may be an order
 abbrev pub choice_count : LineData → ℕ
 choice_count l = count_by (has_choice l) (numbers_from 0 (visit_count l))
 

@@ -35,7 +35,8 @@ retext Fits u text S bytes (Err left) is h = record {
 
 -- ---- nothing more: the value is known
 
-pub done_reads : {C : Type 0} (Fits : C → Type 0) (Stops : List ℕ → Type 0) (bytes : List ℕ) (c : C) → Fits c → ((d : C) → Fits d → d ≡ c)
+pub done_reads : {C : Type 0} (Fits : C → Type 0) (Stops : List ℕ → Type 0) (bytes : List ℕ) (c : C) → Fits c
+    → ((d : C) → Fits d → d ≡ c)
     → Reads Fits (λ _. []) Stops bytes (Ok (c, bytes))
 done_reads Fits Stops bytes c fits one = record { fits = fits; is = refl; only = λ d t y f s e h. one d f }
 
@@ -142,8 +143,10 @@ cons_reads Fits text u S w bytes (Err left) is h = record {
 }
 
 -- nothing is read, since no text begins as the bytes do
-pub stuck_reads : {A : Type 0} (Fits : A → Type 0) (text : A → List ℕ) (S : List ℕ → Type 0) (bytes : List ℕ) (some : A) → Fits some
-    → ((b : A) (t : List ℕ) → Fits b → S t → SameHead (text b ++ t) bytes → ⊥) → Reads Fits text S bytes (Err (length bytes))
+pub stuck_reads : {A : Type 0} (Fits : A → Type 0) (text : A → List ℕ) (S : List ℕ → Type 0) (bytes : List ℕ) (some : A)
+    → Fits some
+    → ((b : A) (t : List ℕ) → Fits b → S t → SameHead (text b ++ t) bytes → ⊥)
+    → Reads Fits text S bytes (Err (length bytes))
 stuck_reads Fits text S bytes some fits none = record {
   front = [];
   back = bytes;
@@ -221,7 +224,8 @@ made_reads FA ta FC tc S make bytes (Err left) into from h = record {
 -- the same texts, where only those of one kind begin as the bytes do
 pub narrow_reads : {A : Type 0} (FA FC : A → Type 0) (text : A → List ℕ) (S : List ℕ → Type 0) (bytes : List ℕ) (r : Result (A × List ℕ) ℕ)
     → ((a : A) → FA a → FC a)
-    → ((a : A) (t : List ℕ) → FC a → S t → SameHead (text a ++ t) bytes → FA a) → Reads FA text S bytes r → Reads FC text S bytes r
+    → ((a : A) (t : List ℕ) → FC a → S t → SameHead (text a ++ t) bytes → FA a) → Reads FA text S bytes r
+    → Reads FC text S bytes r
 narrow_reads FA FC text S bytes (Ok x) into from h = record {
   fits = into x.0 h.fits;
   is = h.is;

@@ -51,7 +51,8 @@ cons_part {A = A} F ta SA W tw S B tb nil is = record {
 -- one item in front of others
 pub cons_items : {A : Type 0} (F : A → Type 0) (ta : A → List ℕ) (SA : List ℕ → Type 0) (W : List A → Type 0) (tw : List A → List ℕ) (S : List ℕ → Type 0)
     (B : A → List A → Type 0) (tb : List A → List ℕ) (nil : A)
-    → IsCons F ta SA W tw S B tb → (bytes : List ℕ) (first : Result (A × List ℕ) ℕ) (others : A × List ℕ → Result (List A × List ℕ) ℕ)
+    → IsCons F ta SA W tw S B tb
+    → (bytes : List ℕ) (first : Result (A × List ℕ) ℕ) (others : A × List ℕ → Result (List A × List ℕ) ℕ)
     → Reads F ta SA bytes first
     → ((a : A) (rest : List ℕ) → F a → bytes ≡ ta a ++ rest → Reads (B a) tb S rest (others (a, rest)))
     → Reads W tw S bytes (first >>= λ x. others x >>= λ y. Ok (x.0 ∷ y.0, y.1))
@@ -64,7 +65,8 @@ cons_items {A = A} F ta SA W tw S B tb nil is bytes first others read h =
     (from a rest)
     (h a rest f e))
   where
-    from : (a : A) (rest : List ℕ) (xs : List A) (t : List ℕ) → W xs × (first_of_list nil xs ≡ a) → S t → SameHead (after_first tb xs ++ t) rest
+    from : (a : A) (rest : List ℕ) (xs : List A) (t : List ℕ) → W xs × (first_of_list nil xs ≡ a) → S t
+        → SameHead (after_first tb xs ++ t) rest
         → (ys : List A) × B a ys × (a ∷ ys ≡ xs)
     from a rest [] t g s head = absurd (is.none g.0)
     from a rest (x ∷ xs) t g s head = (xs, subst (λ (z : A). B z xs) g.1 (is.behind x xs g.0).1, ap (λ (z : A). z ∷ xs) (sym g.1))
@@ -94,7 +96,8 @@ pub length_nils : {A : Type 0} (nil : ℕ → A) (i n : ℕ) → length (nils ni
 length_nils nil i zero = refl
 length_nils nil i (suc n) = ap suc (length_nils nil (i + 1) n)
 
-pub all_nils : {A : Type 0} (F : ℕ → A → Type 0) (nil : ℕ → A) (i n : ℕ) → ((j : ℕ) → F j (nil j)) → AllFrom F i (nils nil i n)
+pub all_nils : {A : Type 0} (F : ℕ → A → Type 0) (nil : ℕ → A) (i n : ℕ) → ((j : ℕ) → F j (nil j))
+    → AllFrom F i (nils nil i n)
 all_nils F nil i zero f = tt
 all_nils F nil i (suc n) f = (f i, all_nils F nil (i + 1) n f)
 
@@ -136,14 +139,16 @@ texts_are text i [] = refl
 texts_are text i (x ∷ xs) = ap (λ (l : List ℕ). text x ++ l) (texts_are text (i + 1) xs) ∙ sym (flat_map-cons text x xs)
 
 -- what holds of each item, by its place
-pub all_at : {A : Type 0} (F : ℕ → A → Type 0) (nil : A) (i : ℕ) (xs : List A) → AllFrom F i xs → (j : ℕ) → j < length xs → F (i + j) (get_or xs j nil)
+pub all_at : {A : Type 0} (F : ℕ → A → Type 0) (nil : A) (i : ℕ) (xs : List A) → AllFrom F i xs → (j : ℕ)
+    → j < length xs → F (i + j) (get_or xs j nil)
 all_at F nil i [] f j lt = absurd (omega arith)
 all_at {A = A} F nil i (x ∷ xs) f zero lt = let e : i ≡ i + 0 = omega arith in subst (λ (n : ℕ). F n x) e f.0
 all_at {A = A} F nil i (x ∷ xs) f (suc j) lt =
     let e : i + 1 + j ≡ i + suc j = omega arith in
     subst (λ (n : ℕ). F n (get_or xs j nil)) e (all_at F nil (i + 1) xs f.1 j (omega arith))
 
-pub all_from : {A : Type 0} (F : ℕ → A → Type 0) (nil : A) (i : ℕ) (xs : List A) → ((j : ℕ) → j < length xs → F (i + j) (get_or xs j nil)) → AllFrom F i xs
+pub all_from : {A : Type 0} (F : ℕ → A → Type 0) (nil : A) (i : ℕ) (xs : List A)
+    → ((j : ℕ) → j < length xs → F (i + j) (get_or xs j nil)) → AllFrom F i xs
 all_from F nil i [] h = tt
 all_from F nil i (x ∷ xs) h =
     let e : i + 0 ≡ i = omega arith in (

@@ -13,7 +13,8 @@ abbrev pub at_most : {A : Type 0} → ℕ → Result A ℕ → Result A ℕ
 at_most left (Ok x) = Ok x
 at_most left (Err other) = Err (min left other)
 
-kind_or_bounded : {K : Type 0} (k : K) (a : Result (List ℕ) ℕ) (b : Result (K × List ℕ) ℕ) (n : ℕ) → at_most n b ≡ b → at_most n (kind_or k a b) ≡ kind_or k a b
+kind_or_bounded : {K : Type 0} (k : K) (a : Result (List ℕ) ℕ) (b : Result (K × List ℕ) ℕ) (n : ℕ) → at_most n b ≡ b
+    → at_most n (kind_or k a b) ≡ kind_or k a b
 kind_or_bounded k (Ok rest) b n e = refl
 kind_or_bounded k (Err left) (Ok x) n e = refl
 kind_or_bounded k (Err left) (Err other) n e =
@@ -32,7 +33,8 @@ drop_past [] (suc n) le = refl
 drop_past (x ∷ xs) zero le = absurd (omega (arith, le))
 drop_past (x ∷ xs) (suc n) le = drop_past xs n (omega (arith, le))
 
-pub kind_ends : {K : Type 0} (word : K → List ℕ) (kinds : List K) (bytes : List ℕ) (n left : ℕ) (total : Result (K × List ℕ) ℕ) → length kinds ≤ n
+pub kind_ends : {K : Type 0} (word : K → List ℕ) (kinds : List K) (bytes : List ℕ) (n left : ℕ) (total : Result (K × List ℕ) ℕ)
+    → length kinds ≤ n
     → left ≤ length bytes → at_most left (kind_at word (drop n kinds) bytes) ≡ total → total ≡ Err left
 unfolding kind_at
 kind_ends word kinds bytes n left total past le so_far =
@@ -48,7 +50,8 @@ regroup front a (Err left) = refl
 
 pub item_more : {A : Type 0} (item : ℕ → List ℕ → Result (A × List ℕ) ℕ) (front : List A) (count i : ℕ) (bytes : List ℕ) (a : A) (after : List ℕ)
     (total : Result (List A × List ℕ) ℕ) → i < count → item i bytes ≡ Ok (a, after)
-    → with_front front (items_at item i (count - i) bytes) ≡ total → with_front (front ++ a ∷ []) (items_at item (i + 1) (count - (i + 1)) after) ≡ total
+    → with_front front (items_at item i (count - i) bytes) ≡ total
+    → with_front (front ++ a ∷ []) (items_at item (i + 1) (count - (i + 1)) after) ≡ total
 unfolding items_at
 item_more item front count i bytes a after total lt h so_far =
     let k : count - i ≡ suc (count - (i + 1)) = omega arith in
@@ -124,7 +127,8 @@ pairs_done item firsts seconds count i bytes total le so_far =
 abbrev pub with_joined : List ℕ → Result (List (List ℕ) × List ℕ) ℕ → Result (List ℕ × List ℕ) ℕ
 with_joined front r = r >>= λ x. Ok (front ++ concat x.0, x.1)
 
-regroup_lists : (front xs : List ℕ) (r : Result (List (List ℕ) × List ℕ) ℕ) → with_joined front (r >>= λ x. Ok (xs ∷ x.0, x.1)) ≡ with_joined (front ++ xs) r
+regroup_lists : (front xs : List ℕ) (r : Result (List (List ℕ) × List ℕ) ℕ)
+    → with_joined front (r >>= λ x. Ok (xs ∷ x.0, x.1)) ≡ with_joined (front ++ xs) r
 regroup_lists front xs (Ok x) = ap (λ (ys : List ℕ). Ok (ys, x.1)) (sym (append_assoc front xs (concat x.0)))
 regroup_lists front xs (Err left) = refl
 
@@ -143,7 +147,8 @@ front_fails stops.Memory front r f = tt
 front_fails (stops.Broken left) front (Ok x) f = absurd cc
 front_fails (stops.Broken left) front (Err other) f = let p : other ≡ left = cc in ap (λ (k : ℕ). Err k) p
 
-list_step : (item : ℕ → List ℕ → Result (List ℕ × List ℕ) ℕ) (front xs : List ℕ) (count i : ℕ) (bytes after : List ℕ) → i < count
+list_step : (item : ℕ → List ℕ → Result (List ℕ × List ℕ) ℕ) (front xs : List ℕ) (count i : ℕ) (bytes after : List ℕ)
+    → i < count
     → item i bytes ≡ Ok (xs, after)
     → with_joined front (items_at item i (count - i) bytes) ≡ with_joined (front ++ xs) (items_at item (i + 1) (count - (i + 1)) after)
 unfolding items_at
@@ -153,7 +158,8 @@ list_step item front xs count i bytes after lt h =
 
 pub list_more : (item : ℕ → List ℕ → Result (List ℕ × List ℕ) ℕ) (front new : List ℕ) (count i : ℕ) (bytes after : List ℕ) (total : Result (List ℕ × List ℕ) ℕ)
     → i < count → with_front front (item i bytes) ≡ Ok (new, after)
-    → with_joined front (items_at item i (count - i) bytes) ≡ total → with_joined new (items_at item (i + 1) (count - (i + 1)) after) ≡ total
+    → with_joined front (items_at item i (count - i) bytes) ≡ total
+    → with_joined new (items_at item (i + 1) (count - (i + 1)) after) ≡ total
 list_more item front new count i bytes after total lt h so_far =
     let was = front_ok front new after (item i bytes) h in
     ap (λ (xs : List ℕ). with_joined xs (items_at item (i + 1) (count - (i + 1)) after)) was.2 ∙ sym (list_step item front was.0 count i bytes after lt was.1)

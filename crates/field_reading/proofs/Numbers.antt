@@ -31,7 +31,8 @@ run_stops : (v : ℕ) (t : List ℕ) → NoDigit t → run v t ≡ v
 run_stops v [] s = refl
 run_stops v (b ∷ t) s = run_other v b t s
 
-run_ge_at : (v b : ℕ) (t : List ℕ) (d : Bool) → v * 10 + (b - 48) ≤ run (v * 10 + (b - 48)) t → v ≤ cond d (run (v * 10 + (b - 48)) t) v
+run_ge_at : (v b : ℕ) (t : List ℕ) (d : Bool) → v * 10 + (b - 48) ≤ run (v * 10 + (b - 48)) t
+    → v ≤ cond d (run (v * 10 + (b - 48)) t) v
 run_ge_at v b t true h = omega arith
 run_ge_at v b t false h = omega arith
 
@@ -49,7 +50,8 @@ run_decimal n small =
     n small
 
 -- what begins with the digits of n has the value of all the digits in front
-pub value_is : (b n : ℕ) (t y : List ℕ) → b < 2 ^ 64 → n < 2 ^ 64 → NoDigit t → decimal b ++ t ≡ decimal n ++ y → b ≡ run n y
+pub value_is : (b n : ℕ) (t y : List ℕ) → b < 2 ^ 64 → n < 2 ^ 64 → NoDigit t → decimal b ++ t ≡ decimal n ++ y
+    → b ≡ run n y
 value_is b n t y sb sn stop e = sym (run_stops b t stop) ∙ sym (run_decimal b sb t) ∙ ap (run 0) e ∙ run_decimal n sn y
 
 -- behind a 0 no digit goes on
@@ -93,14 +95,16 @@ abbrev Number : ℕ → ℕ → List ℕ → Result (ℕ × List ℕ) ℕ → Ty
 Number least most bytes r = Reads (InRange least most) decimal NoDigit bytes r
 
 -- all is read
-number_ends : (least most n : ℕ) → most < 2 ^ 64 → InRange least most n → Number least most (decimal n ++ []) (Ok (n, []))
+number_ends : (least most n : ℕ) → most < 2 ^ 64 → InRange least most n
+    → Number least most (decimal n ++ []) (Ok (n, []))
 number_ends least most n small fits = record {
   fits = fits;
   is = refl;
   only = λ b t y f s e h. ends b t y f s e h;
 }
   where
-    ends : (b : ℕ) (t y : List ℕ) → InRange least most b → NoDigit t → decimal b ++ t ≡ decimal n ++ y → SameHead y [] → b ≡ n
+    ends : (b : ℕ) (t y : List ℕ) → InRange least most b → NoDigit t → decimal b ++ t ≡ decimal n ++ y → SameHead y []
+        → b ≡ n
     ends b t [] f s e h = value_is b n t [] (omega (arith, f.1)) (omega (arith, fits.1)) s e
     ends b t (c ∷ y) f s e h = absurd h
 
@@ -113,14 +117,16 @@ number_stops least most n c bytes small fits d = record {
   only = λ b t y f s e h. stops b t y f s e h;
 }
   where
-    stops : (b : ℕ) (t y : List ℕ) → InRange least most b → NoDigit t → decimal b ++ t ≡ decimal n ++ y → SameHead y (c ∷ bytes) → b ≡ n
+    stops : (b : ℕ) (t y : List ℕ) → InRange least most b → NoDigit t → decimal b ++ t ≡ decimal n ++ y
+        → SameHead y (c ∷ bytes) → b ≡ n
     stops b t [] f s e h = absurd h
     stops b t (x ∷ y) f s e h =
         let other : is_digit x ≡ false = ap is_digit h ∙ d in
         value_is b n t (x ∷ y) (omega (arith, f.1)) (omega (arith, fits.1)) s e ∙ run_other n x y other
 
 -- a digit comes that takes it too far
-number_breaks : (least most n c : ℕ) (bytes : List ℕ) → most < 2 ^ 64 → InRange least most n → is_digit c ≡ true → (0 < n → most < n * 10 + (c - 48))
+number_breaks : (least most n c : ℕ) (bytes : List ℕ) → most < 2 ^ 64 → InRange least most n → is_digit c ≡ true
+    → (0 < n → most < n * 10 + (c - 48))
     → Number least most (decimal n ++ (c ∷ bytes)) (Err (length (c ∷ bytes)))
 number_breaks least most n c bytes small fits d far = record {
   front = decimal n;
@@ -134,7 +140,8 @@ number_breaks least most n c bytes small fits d far = record {
   none = λ b t y f s e h. breaks b t y f s e h;
 }
   where
-    breaks : (b : ℕ) (t y : List ℕ) → InRange least most b → NoDigit t → decimal b ++ t ≡ decimal n ++ y → SameHead y (c ∷ bytes) → ⊥
+    breaks : (b : ℕ) (t y : List ℕ) → InRange least most b → NoDigit t → decimal b ++ t ≡ decimal n ++ y
+        → SameHead y (c ∷ bytes) → ⊥
     breaks b t [] f s e h = absurd h
     breaks b t (x ∷ y) f s e h =
         let digit : is_digit x ≡ true = ap is_digit h ∙ d in
@@ -148,7 +155,8 @@ number_breaks least most n c bytes small fits d far = record {
         lone_zero b x t y (omega (arith, f.1)) s digit e')
         (cases_lt 0 n)
 
-digits_step : (least most n c : ℕ) (bytes : List ℕ) → most < 2 ^ 64 → InRange least most n → (d : Bool) → is_digit c ≡ d → (g : Bool)
+digits_step : (least most n c : ℕ) (bytes : List ℕ) → most < 2 ^ 64 → InRange least most n → (d : Bool) → is_digit c ≡ d
+    → (g : Bool)
     → (ltb 0 n && leb (n * 10 + (c - 48)) most) ≡ g
     → (InRange least most (n * 10 + (c - 48)) → Number least most (decimal (n * 10 + (c - 48)) ++ bytes) (digits_at most (n * 10 + (c - 48)) bytes))
     → Number least most (decimal n ++ (c ∷ bytes)) (cond d (cond g (digits_at most (n * 10 + (c - 48)) bytes) (Err (length (c ∷ bytes)))) (Ok (n, c ∷ bytes)))
@@ -159,7 +167,8 @@ digits_step least most n c bytes small fits true d true g next =
 digits_step least most n c bytes small fits true d false g next = number_breaks least most n c bytes small fits d (not_more n c most g)
 digits_step least most n c bytes small fits false d g e next = number_stops least most n c bytes small fits d
 
-pub digits_read : (least most n : ℕ) (bytes : List ℕ) → most < 2 ^ 64 → InRange least most n → Number least most (decimal n ++ bytes) (digits_at most n bytes)
+pub digits_read : (least most n : ℕ) (bytes : List ℕ) → most < 2 ^ 64 → InRange least most n
+    → Number least most (decimal n ++ bytes) (digits_at most n bytes)
 unfolding digits_at
 digits_read least most n [] small fits = number_ends least most n small fits
 digits_read least most n (c ∷ bytes) small fits =
@@ -169,7 +178,8 @@ digits_read least most n (c ∷ bytes) small fits =
 -- ---- a number from the first digit on
 
 -- the first digit of a number
-first_digit : (n : ℕ) → n < 2 ^ 64 → (c : ℕ) × (ds : List ℕ) × (decimal n ≡ c ∷ ds) × (48 ≤ c) × (c ≤ 57) × (c ≤ 48 + n) × (0 < n → 48 < c)
+first_digit : (n : ℕ) → n < 2 ^ 64
+    → (c : ℕ) × (ds : List ℕ) × (decimal n ≡ c ∷ ds) × (48 ≤ c) × (c ≤ 57) × (c ≤ 48 + n) × (0 < n → 48 < c)
 first_digit n small =
     decimal_by_steps (λ m ds. (c : ℕ) × (rest : List ℕ) × (ds ≡ c ∷ rest) × (48 ≤ c) × (c ≤ 57) × (c ≤ 48 + m) × (0 < m → 48 < c))
     (λ m lt. (48 + m, [], refl, omega arith, omega arith, omega arith, λ pos. omega arith))
@@ -185,7 +195,8 @@ first_digit n small =
     n small
 
 -- which bytes a number in range begins with
-pub begins_number : (least most n : ℕ) (t bytes : List ℕ) → least ≤ 1 → most < 2 ^ 64 → InRange least most n → SameHead (decimal n ++ t) bytes
+pub begins_number : (least most n : ℕ) (t bytes : List ℕ) → least ≤ 1 → most < 2 ^ 64 → InRange least most n
+    → SameHead (decimal n ++ t) bytes
     → (c : ℕ) × (rest : List ℕ) × (bytes ≡ c ∷ rest) × (least + 48 ≤ c) × (c ≤ 57) × (c ≤ most + 48)
 begins_number least most n t bytes low small fits h =
     let d = first_digit n (omega (arith, fits.1)) in
@@ -200,10 +211,12 @@ begins_number least most n t bytes low small fits h =
     begins c y [] h a b e = absurd h
     begins c y (x ∷ rest) h a b e = (x, rest, refl, omega (arith, h), omega (arith, h), omega (arith, h))
 
-first_fits : (least most c : ℕ) → (is_digit c && (leb (least + 48) c && leb c (most + 48))) ≡ true → (48 ≤ c) × (c ≤ 57) × (least + 48 ≤ c) × (c ≤ most + 48)
+first_fits : (least most c : ℕ) → (is_digit c && (leb (least + 48) c && leb c (most + 48))) ≡ true
+    → (48 ≤ c) × (c ≤ 57) × (least + 48 ≤ c) × (c ≤ most + 48)
 first_fits least most c e = grind (arith, nat_tests)
 
-fits_first : (least most c : ℕ) → (is_digit c && (leb (least + 48) c && leb c (most + 48))) ≡ false → least + 48 ≤ c → c ≤ 57 → c ≤ most + 48 → ⊥
+fits_first : (least most c : ℕ) → (is_digit c && (leb (least + 48) c && leb c (most + 48))) ≡ false → least + 48 ≤ c
+    → c ≤ 57 → c ≤ most + 48 → ⊥
 fits_first least most c e a b d = grind (arith, nat_tests)
 
 first_step : (least most c : ℕ) (bytes : List ℕ) → least ≤ 1 → least ≤ most → most < 2 ^ 64 → (g : Bool)
@@ -221,7 +234,8 @@ first_step least most c bytes low some small false g =
     let same : d.0 ≡ c = let e = d.2 in cc in
     fits_first least most c g (omega (arith, d.3, same)) (omega (arith, d.4, same)) (omega (arith, d.5, same)))
 
-pub number_read : (least most : ℕ) (bytes : List ℕ) → least ≤ 1 → least ≤ most → most < 2 ^ 64 → Number least most bytes (number_at least most bytes)
+pub number_read : (least most : ℕ) (bytes : List ℕ) → least ≤ 1 → least ≤ most → most < 2 ^ 64
+    → Number least most bytes (number_at least most bytes)
 unfolding number_at
 number_read least most [] low some small =
     stuck_reads (InRange least most) decimal NoDigit [] least (omega arith, some) (λ b t f s head.
@@ -231,7 +245,8 @@ number_read least most [] low some small =
 number_read least most (c ∷ bytes) low some small = first_step least most c bytes low some small (is_digit c && (leb (least + 48) c && leb c (most + 48))) refl
 
 -- a number that is read is in range
-pub number_small : (least most n : ℕ) (bytes rest : List ℕ) → least ≤ 1 → least ≤ most → most < 2 ^ 64 → number_at least most bytes ≡ Ok (n, rest) → n ≤ most
+pub number_small : (least most n : ℕ) (bytes rest : List ℕ) → least ≤ 1 → least ≤ most → most < 2 ^ 64
+    → number_at least most bytes ≡ Ok (n, rest) → n ≤ most
 number_small least most n bytes rest low some small e =
     let h : IsRead (InRange least most) decimal NoDigit bytes n rest =
     subst (λ (r : Result (ℕ × List ℕ) ℕ). Number least most bytes r) e (number_read least most bytes low some small) in

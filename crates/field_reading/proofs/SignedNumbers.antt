@@ -16,11 +16,13 @@ signed_none most (pos n) t small f head =
     absurd cc
 signed_none most (negsuc n) t small f head = absurd head
 
-neg_into : (most n : ℕ) → InRange 1 most n → IsSmall most (neg_ℤ (pos n)) × (signed_decimal (neg_ℤ (pos n)) ≡ 45 ∷ decimal n)
+neg_into : (most n : ℕ) → InRange 1 most n
+    → IsSmall most (neg_ℤ (pos n)) × (signed_decimal (neg_ℤ (pos n)) ≡ 45 ∷ decimal n)
 neg_into most zero f = absurd (omega (arith, f.0))
 neg_into most (suc n) f = (omega (arith, f.1), refl)
 
-neg_from : (most : ℕ) (z : ℤ) (t bytes : List ℕ) → most < 2 ^ 63 → IsSmall most z → SameHead (signed_decimal z ++ t) (45 ∷ bytes)
+neg_from : (most : ℕ) (z : ℤ) (t bytes : List ℕ) → most < 2 ^ 63 → IsSmall most z
+    → SameHead (signed_decimal z ++ t) (45 ∷ bytes)
     → (n : ℕ) × InRange 1 most n × (neg_ℤ (pos n) ≡ z)
 neg_from most (pos n) t bytes small f head =
     let d = begins_number 0 most n t (45 ∷ bytes) (omega arith) (omega arith) (omega arith, f) head in
@@ -28,7 +30,8 @@ neg_from most (pos n) t bytes small f head =
     absurd (omega (arith, d.3, same))
 neg_from most (negsuc n) t bytes small f head = (suc n, (omega arith, omega (arith, f)), refl)
 
-pos_from : (most : ℕ) (z : ℤ) (t : List ℕ) (b : ℕ) (bytes : List ℕ) → (b ≡ 45 → ⊥) → IsSmall most z → SameHead (signed_decimal z ++ t) (b ∷ bytes)
+pos_from : (most : ℕ) (z : ℤ) (t : List ℕ) (b : ℕ) (bytes : List ℕ) → (b ≡ 45 → ⊥) → IsSmall most z
+    → SameHead (signed_decimal z ++ t) (b ∷ bytes)
     → (n : ℕ) × InRange 0 most n × (pos n ≡ z)
 pos_from most (pos n) t b bytes other f head = (n, (omega arith, f), refl)
 pos_from most (negsuc n) t b bytes other f head = absurd (other (sym head))
@@ -48,7 +51,8 @@ signed_step most b bytes some small false e =
     (λ n f. (f.1, refl)) (λ z t f s head. pos_from most z t b bytes (eqb-false b 45 e) f head)
     (number_read 0 most (b ∷ bytes) (omega arith) (omega arith) (omega arith))
 
-pub signed_read : (most : ℕ) (bytes : List ℕ) → 1 ≤ most → most < 2 ^ 63 → Reads (IsSmall most) signed_decimal NoDigit bytes (signed_at most bytes)
+pub signed_read : (most : ℕ) (bytes : List ℕ) → 1 ≤ most → most < 2 ^ 63
+    → Reads (IsSmall most) signed_decimal NoDigit bytes (signed_at most bytes)
 unfolding signed_at
 signed_read most [] some small = stuck_reads (IsSmall most) signed_decimal NoDigit [] (pos 0) (omega arith) (λ z t f s head. signed_none most z t small f head)
 signed_read most (b ∷ bytes) some small = signed_step most b bytes some small (eqb b 45) refl

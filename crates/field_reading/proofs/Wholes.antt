@@ -22,7 +22,8 @@ longer (suc n) (suc m) (a ∷ front) back e lt le =
 -- a break of the bytes as a whole
 pub breaks_at : {A : Type 0} (Fits : A → Type 0) (text : A → List ℕ) (bytes front back : List ℕ) (left : ℕ)
     → bytes ≡ front ++ back → left ≡ length back → GoesOn Fits text front
-    → ((a : A) (y : List ℕ) → Fits a → text a ≡ front ++ y → SameHead y back → ⊥) → BreaksAt Fits text bytes (length bytes - left)
+    → ((a : A) (y : List ℕ) → Fits a → text a ≡ front ++ y → SameHead y back → ⊥)
+    → BreaksAt Fits text bytes (length bytes - left)
 breaks_at Fits text bytes front back left is left_is goes none =
     let n : length bytes - left ≡ length front = omega (arith, ap length is, length-append front back, left_is) in
     let cut : take (length bytes - left) bytes ≡ front =
@@ -53,7 +54,8 @@ not_empty (x ∷ rest) [] lt z same = same
 not_empty (x ∷ rest) (b ∷ y) lt z same = omega (arith, z)
 
 -- reading broke off
-pub broken_breaks : {A : Type 0} (Fits : A → Type 0) (text : A → List ℕ) (bytes : List ℕ) (left : ℕ) → IsBroken Fits text Any bytes left
+pub broken_breaks : {A : Type 0} (Fits : A → Type 0) (text : A → List ℕ) (bytes : List ℕ) (left : ℕ)
+    → IsBroken Fits text Any bytes left
     → BreaksAt Fits text bytes (length bytes - left)
 broken_breaks Fits text bytes left h =
     breaks_at Fits text bytes h.front h.back left h.is h.left_is (h.some, h.more, h.fits, h.begun)

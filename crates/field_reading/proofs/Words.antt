@@ -16,7 +16,8 @@ pub both_reads : {A B : Type 0} (FA : A → Type 0) (ta : A → List ℕ) (SA : 
     (FB : B → Type 0) (tb : B → List ℕ) (S : List ℕ → Type 0) (second : List ℕ → Result (B × List ℕ) ℕ) (nil : B) → FB nil
     → ((b : B) (t : List ℕ) → FB b → S t → SA (word ++ (tb b ++ t)))
     → ((bytes : List ℕ) → Reads FA ta SA bytes (first bytes)) → ((bytes : List ℕ) → Reads FB tb S bytes (second bytes))
-    → (bytes : List ℕ) → Reads (λ p. FA p.0 × FB p.1) (λ p. ta p.0 ++ (word ++ tb p.1)) S bytes (both_at first word second bytes)
+    → (bytes : List ℕ)
+    → Reads (λ p. FA p.0 × FB p.1) (λ p. ta p.0 ++ (word ++ tb p.1)) S bytes (both_at first word second bytes)
 both_reads {A = A} {B = B} FA ta SA first word FB tb S second nil fits stops h k bytes =
     let F : A × B → Type 0 = λ p. FA p.0 × FB p.1 in
     then_reads FA ta SA (λ p. FA p.0 × FB p.1) (λ p. ta p.0 ++ (word ++ tb p.1)) S (λ p. p.0) (λ p. word ++ tb p.1)
@@ -44,9 +45,11 @@ unfolding word_at
 next_reads FA ta SA first FB tb S second nil fits stops h k bytes = both_reads FA ta SA first [] FB tb S second nil fits stops h k bytes
 
 -- a field, and a word behind it
-pub worded_reads : {A : Type 0} (F : A → Type 0) (text : A → List ℕ) (S : List ℕ → Type 0) (word : List ℕ) → ((t : List ℕ) → S (word ++ t))
+pub worded_reads : {A : Type 0} (F : A → Type 0) (text : A → List ℕ) (S : List ℕ → Type 0) (word : List ℕ)
+    → ((t : List ℕ) → S (word ++ t))
     → (bytes : List ℕ) (r : Result (A × List ℕ) ℕ)
-    → Reads F text S bytes r → Reads F (λ a. text a ++ word) Any bytes (r >>= λ x. word_at word x.1 >>= λ rest. Ok (x.0, rest))
+    → Reads F text S bytes r
+    → Reads F (λ a. text a ++ word) Any bytes (r >>= λ x. word_at word x.1 >>= λ rest. Ok (x.0, rest))
 worded_reads F text S word stops bytes r h =
     then_reads F text S F (λ a. text a ++ word) Any (λ a. a) (λ a. word)
     (record { parts = λ a f. f; text = λ a f. refl; stops = λ a t f s. stops t; completes = λ a f. (a, f, refl) })
@@ -65,7 +68,8 @@ cut_again (y ∷ f) b (x ∷ g) c e le =
     (r.0, ap (λ (l : List ℕ). y ∷ l) r.1 ∙ ap (λ (k : ℕ). k ∷ (g ++ r.0)) p, r.2)
 
 -- where neither of two kinds of text goes on, the further one of the two breaks is that of both
-broken_both : {A : Type 0} (FA FB : A → Type 0) (text : A → List ℕ) (S : List ℕ → Type 0) (bytes : List ℕ) (l k : ℕ) → IsBroken FA text S bytes l
+broken_both : {A : Type 0} (FA FB : A → Type 0) (text : A → List ℕ) (S : List ℕ → Type 0) (bytes : List ℕ) (l k : ℕ)
+    → IsBroken FA text S bytes l
     → IsBroken FB text S bytes k → l ≤ k
     → IsBroken (λ a. FA a ⊎ FB a) text S bytes l
 broken_both FA FB text S bytes l k first second le =
@@ -92,19 +96,22 @@ pub refit : {A : Type 0} (FA FB : A → Type 0) (text : A → List ℕ) (S : Lis
     → ((a : A) → FA a → FB a) → ((a : A) → FB a → FA a) → Reads FA text S bytes r → Reads FB text S bytes r
 refit FA FB text S bytes r into from h = narrow_reads FA FB text S bytes r into (λ a t f s head. from a f) h
 
-pub one_word : {K : Type 0} (word : K → List ℕ) (k : K) (bytes : List ℕ) → Reads (λ j. j ≡ k) word Any bytes (word_at (word k) bytes >>= λ rest. Ok (k, rest))
+pub one_word : {K : Type 0} (word : K → List ℕ) (k : K) (bytes : List ℕ)
+    → Reads (λ j. j ≡ k) word Any bytes (word_at (word k) bytes >>= λ rest. Ok (k, rest))
 one_word word k bytes =
     word_reads (λ j. j ≡ k) word (λ j. []) Any (word k) bytes (λ rest. Ok (k, rest)) k refl
     (λ j e. ap word e ∙ sym (append-nil (word k)))
     (λ rest e. done_reads (λ j. j ≡ k) Any rest k refl (λ d e. e))
 
 -- a break leaves no more than there is
-left_le : {A : Type 0} (FA : A → Type 0) (text : A → List ℕ) (S : List ℕ → Type 0) (bytes : List ℕ) (l : ℕ) → IsBroken FA text S bytes l → l ≤ length bytes
+left_le : {A : Type 0} (FA : A → Type 0) (text : A → List ℕ) (S : List ℕ → Type 0) (bytes : List ℕ) (l : ℕ)
+    → IsBroken FA text S bytes l → l ≤ length bytes
 left_le FA text S bytes l h = omega (arith, h.left_is, ap length h.is, length-append h.front h.back)
 
 kind_step : {K : Type 0} (word : K → List ℕ) (k : K) (kinds : List K) (bytes : List ℕ) (a : Result (List ℕ) ℕ) (b : Result (K × List ℕ) ℕ)
     → AreApart word (k ∷ kinds)
-    → Reads (λ j. j ≡ k) word Any bytes (a >>= λ rest. Ok (k, rest)) → Reads (In kinds) word Any bytes b → Reads (In (k ∷ kinds)) word Any bytes (kind_or k a b)
+    → Reads (λ j. j ≡ k) word Any bytes (a >>= λ rest. Ok (k, rest)) → Reads (In kinds) word Any bytes b
+    → Reads (In (k ∷ kinds)) word Any bytes (kind_or k a b)
 kind_step word k kinds bytes (Ok rest) b apart first others = record { fits = inl refl; is = first.is; only = λ j t y f s e h. apart j k t y f (inl refl) e }
 kind_step word k kinds bytes (Err left) (Ok x) apart first others =
     record { fits = inr others.fits; is = others.is; only = λ j t y f s e h. apart j x.0 t y f (inr others.fits) e }
@@ -122,7 +129,8 @@ kind_step word k kinds bytes (Err left) (Err other) apart first others =
     (λ j f. ⊎_elim (λ x. inr x) (λ x. inl x) f) both))
     (cases_lt left other)
 
-kind_last : {K : Type 0} (word : K → List ℕ) (k : K) (bytes : List ℕ) (a : Result (List ℕ) ℕ) → Reads (λ j. j ≡ k) word Any bytes (a >>= λ rest. Ok (k, rest))
+kind_last : {K : Type 0} (word : K → List ℕ) (k : K) (bytes : List ℕ) (a : Result (List ℕ) ℕ)
+    → Reads (λ j. j ≡ k) word Any bytes (a >>= λ rest. Ok (k, rest))
     → Reads (In (k ∷ [])) word Any bytes (kind_or k a (Err (length bytes)))
 kind_last word k bytes (Ok rest) first =
     refit (λ j. j ≡ k) (In (k ∷ [])) word Any bytes (Ok (k, rest)) (λ j f. inl f) (λ j f. ⊎_elim (λ x. x) (λ x. absurd x) f) first
@@ -145,7 +153,8 @@ apart_at [] w = false
 apart_at (a ∷ v) [] = false
 apart_at (a ∷ v) (b ∷ w) = cond (eqb a b) (apart_at v w) true
 
-apart_step : (a b : ℕ) (v w t y : List ℕ) (d : Bool) → eqb a b ≡ d → cond d (apart_at v w) true ≡ true → (apart_at v w ≡ true → v ++ t ≡ w ++ y → ⊥)
+apart_step : (a b : ℕ) (v w t y : List ℕ) (d : Bool) → eqb a b ≡ d → cond d (apart_at v w) true ≡ true
+    → (apart_at v w ≡ true → v ++ t ≡ w ++ y → ⊥)
     → a ∷ (v ++ t) ≡ b ∷ (w ++ y) → ⊥
 apart_step a b v w t y true d h next e = next h (cc)
 apart_step a b v w t y false d h next e = eqb-false a b d (cc)
@@ -161,7 +170,8 @@ pub bind_ext : {A B : Type 0} (r : Result A ℕ) (f g : A → Result B ℕ) → 
 bind_ext (Ok x) f g h = h x
 bind_ext (Err left) f g h = refl
 
-same_or : (both first : Result (List ℕ) ℕ) (second : List ℕ → Result (List ℕ) ℕ) (left : ℕ) (d : Bool) → both ≡ (first >>= second)
+same_or : (both first : Result (List ℕ) ℕ) (second : List ℕ → Result (List ℕ) ℕ) (left : ℕ) (d : Bool)
+    → both ≡ (first >>= second)
     → cond d both (Err left) ≡ (cond d first (Err left) >>= second)
 same_or both first second left true e = e
 same_or both first second left false e = refl

@@ -1,5 +1,5 @@
--- What a reader of one field promises: the value that was read is the only one whose text agrees with the bytes past it,
--- and where reading broke off, the text of some value begins with all that was read, and that of none goes on.
+-- What a reader of one field promises: the value that was read is the only one whose text agrees with the bytes past
+-- it, and where reading broke off, the text of some value begins with all that was read, and that of none goes on.
 use Rattle.std.specs.Prelude.{◌≡◌, ℕ, ◌≤◌, ℤ, List, [], ◌∷◌, ◌++◌, length, Bool, false, Result, Ok, Err, ◌⊎◌, unsigned_abs}
 use Rattle.field_reading.specs.Reading.{is_digit}
 

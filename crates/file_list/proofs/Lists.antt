@@ -35,7 +35,8 @@ list_cons : (n : List ℕ) (ns : List (List ℕ)) → list_text (n ∷ ns) ≡ n
 list_cons n ns = flat_map-cons (λ (name : List ℕ). name ++ end) n ns ∙ append_assoc n end (list_text ns)
 
 -- a list that begins with these names has more names behind them, whose text is the rest
-list_cut : (names ns : List (List ℕ)) (rest : List ℕ) → All IsName names → All IsName ns → list_text ns ≡ list_text names ++ rest
+list_cut : (names ns : List (List ℕ)) (rest : List ℕ) → All IsName names → All IsName ns
+    → list_text ns ≡ list_text names ++ rest
     → (ms : List (List ℕ)) × (ns ≡ names ++ ms) × All IsName ms × (list_text ms ≡ rest)
 list_cut [] ns rest f g e = (ns, refl, g, e)
 list_cut (n ∷ names) [] rest f g e =
@@ -74,7 +75,8 @@ first_no_dash (c ∷ name) k b f none = absurd (omega (arith, ap length none))
 
 -- ---- where no list goes on
 
-stuck_rest : (names : List (List ℕ)) (name y : List ℕ) (b : ℕ) (ns ms : List (List ℕ)) → IsFront names name → IsStuck names name b → IsFileList ns
+stuck_rest : (names : List (List ℕ)) (name y : List ℕ) (b : ℕ) (ns ms : List (List ℕ)) → IsFront names name
+    → IsStuck names name b → IsFileList ns
     → ns ≡ names ++ ms → All IsName ms → list_text ms ≡ name ++ b ∷ y → ⊥
 stuck_rest names name y b ns [] front stuck list is each e =
     absurd (omega (arith, ap length e, length-append name (b ∷ y)))
@@ -96,7 +98,8 @@ stuck_rest names name y b ns (n ∷ ms) front stuck list is each e =
     (name_goes n name (list_text ms) y b front.seen (sym (list_cons n ms) ∙ e))
 
 -- no list begins with the front and a byte with which it is stuck
-no_list : (names : List (List ℕ)) (name y : List ℕ) (b : ℕ) (ns : List (List ℕ)) → IsFront names name → IsStuck names name b → IsFileList ns
+no_list : (names : List (List ℕ)) (name y : List ℕ) (b : ℕ) (ns : List (List ℕ)) → IsFront names name
+    → IsStuck names name b → IsFileList ns
     → list_text ns ≡ front_text names name ++ b ∷ y → ⊥
 no_list names name y b ns front stuck list e =
     let c = list_cut names ns (name ++ b ∷ y) front.each list.each (e ∙ append_assoc (list_text names) name (b ∷ y)) in
@@ -117,7 +120,8 @@ letter = record {
   no_dash = λ e. omega (arith, e);
 }
 
-front_goes : (names : List (List ℕ)) (name : List ℕ) → IsFront names name → GoesOn IsFileList list_text (front_text names name)
+front_goes : (names : List (List ℕ)) (name : List ℕ) → IsFront names name
+    → GoesOn IsFileList list_text (front_text names name)
 front_goes [] [] front =
     ((97 ∷ []) ∷ [], 97 ∷ 10 ∷ [], record { some = omega arith; few = omega arith; each = All-cons IsName (97 ∷ []) [] letter (All-nil IsName) }, refl)
 front_goes (n ∷ names) [] front = (
@@ -147,7 +151,8 @@ same_head [] back b h = absurd h
 same_head (c ∷ y) back b h = (y, ap (λ (x : ℕ). x ∷ y) h)
 
 -- the bytes break where the front before a byte is stuck with it
-pub stuck_breaks : (bytes : List ℕ) (i : ℕ) (names : List (List ℕ)) (name : List ℕ) → i < length bytes → take i bytes ≡ front_text names name
+pub stuck_breaks : (bytes : List ℕ) (i : ℕ) (names : List (List ℕ)) (name : List ℕ) → i < length bytes
+    → take i bytes ≡ front_text names name
     → IsFront names name → IsStuck names name (get_or bytes i 0) → BreaksAt IsFileList list_text bytes i
 stuck_breaks bytes i names name lt is front stuck =
     let b = get_or bytes i 0 in
@@ -166,7 +171,8 @@ no_more : (y : List ℕ) → SameHead y [] → y ≡ []
 no_more [] h = refl
 no_more (b ∷ y) h = absurd h
 
-unended : (names : List (List ℕ)) (name : List ℕ) (ns ms : List (List ℕ)) → IsFront names name → ((names ≡ []) ⊎ (1 ≤ length name)) → IsFileList ns
+unended : (names : List (List ℕ)) (name : List ℕ) (ns ms : List (List ℕ)) → IsFront names name
+    → ((names ≡ []) ⊎ (1 ≤ length name)) → IsFileList ns
     → ns ≡ names ++ ms → list_text ms ≡ name → ⊥
 unended names name ns [] front unfinished list is e =
     ⊎_elim (λ none. omega (arith, list.some, ap length is, length-append names [], ap length none)) (λ some. omega (arith, some, ap length e)) unfinished
@@ -175,7 +181,8 @@ unended names name ns (n ∷ ms) front unfinished list is e =
     omega (arith, s.0)
 
 -- the bytes break at their end where no name was read, or one isn't ended
-pub end_breaks : (bytes : List ℕ) (names : List (List ℕ)) (name : List ℕ) → bytes ≡ front_text names name → IsFront names name
+pub end_breaks : (bytes : List ℕ) (names : List (List ℕ)) (name : List ℕ) → bytes ≡ front_text names name
+    → IsFront names name
     → ((names ≡ []) ⊎ (1 ≤ length name)) → BreaksAt IsFileList list_text bytes (length bytes)
 end_breaks bytes names name is front unfinished =
     let at : length bytes - 0 ≡ length bytes = omega arith in
@@ -191,7 +198,8 @@ end_breaks bytes names name is front unfinished =
 -- ---- whole lists
 
 -- where every name is ended, the bytes are the list
-pub whole_list : (bytes : List ℕ) (names : List (List ℕ)) (name : List ℕ) → bytes ≡ front_text names name → IsFront names name
+pub whole_list : (bytes : List ℕ) (names : List (List ℕ)) (name : List ℕ) → bytes ≡ front_text names name
+    → IsFront names name
     → 1 ≤ length names → name ≡ [] → IsFileList names × (bytes ≡ list_text names)
 whole_list bytes names name is front some none =
     (record { some = some; few = front.few; each = front.each }, is ∙ ap (λ (l : List ℕ). list_text names ++ l) none ∙ append-nil (list_text names))
@@ -200,13 +208,15 @@ empty_text : (ms : List (List ℕ)) → list_text ms ≡ [] → ms ≡ []
 empty_text [] e = refl
 empty_text (m ∷ ms) e = absurd (omega (arith, ap length (sym (list_cons m ms) ∙ e), length-append m (10 ∷ list_text ms)))
 
-list_is_one : (names ns : List (List ℕ)) → IsFileList names → IsFileList ns → list_text ns ≡ list_text names → ns ≡ names
+list_is_one : (names ns : List (List ℕ)) → IsFileList names → IsFileList ns → list_text ns ≡ list_text names
+    → ns ≡ names
 list_is_one names ns f g e =
     let c = list_cut names ns [] f.each g.each (e ∙ sym (append-nil (list_text names))) in
     c.1 ∙ ap (λ (l : List (List ℕ)). names ++ l) (empty_text c.0 c.3) ∙ append-nil names
 
 -- a right answer about the text of a list is that list
-pub only_one : (bytes : List ℕ) (r : ListRead) (names : List (List ℕ)) → IsListRead bytes r → IsFileList names → bytes ≡ list_text names → r ≡ Ready names
+pub only_one : (bytes : List ℕ) (r : ListRead) (names : List (List ℕ)) → IsListRead bytes r → IsFileList names
+    → bytes ≡ list_text names → r ≡ Ready names
 only_one bytes (Ready ns) names read list is = ap (λ (l : List (List ℕ)). Ready l) (list_is_one names ns list read.0 (sym read.1 ∙ is))
 only_one bytes (Broken offset) names read list is = absurd (read.no_text names list is)
 
@@ -230,7 +240,8 @@ no_front = record {
 pub begun_name : (names : List (List ℕ)) (name : List ℕ) → IsFront names name → 1 ≤ length name → IsName name
 begun_name names name front some = record { some = some; few = front.short; seen = front.seen; no_dash = front.no_dash }
 
-pub ended_front : (names : List (List ℕ)) (name : List ℕ) → IsFront names name → 1 ≤ length name → IsFront (names ++ name ∷ []) []
+pub ended_front : (names : List (List ℕ)) (name : List ℕ) → IsFront names name → 1 ≤ length name
+    → IsFront (names ++ name ∷ []) []
 ended_front names name front some =
     let count = length-append names (name ∷ []) in
     record {
@@ -242,14 +253,16 @@ ended_front names name front some =
       room = λ none. omega (arith, none);
     }
 
-pub ended_text : (names : List (List ℕ)) (name : List ℕ) → front_text (names ++ name ∷ []) [] ≡ front_text names name ++ 10 ∷ []
+pub ended_text : (names : List (List ℕ)) (name : List ℕ)
+    → front_text (names ++ name ∷ []) [] ≡ front_text names name ++ 10 ∷ []
 ended_text names name = append-nil (list_text (names ++ name ∷ [])) ∙ joined names name
 
 dash_free : (name : List ℕ) (b : ℕ) → HasNoDash name → (name ≡ [] → b ≡ 45 → ⊥) → HasNoDash (name ++ b ∷ [])
 dash_free [] b f g = g refl
 dash_free (c ∷ name) b f g = f
 
-pub followed_front : (names : List (List ℕ)) (name : List ℕ) (b : ℕ) → IsFront names name → CanFollow names name b → IsFront names (name ++ b ∷ [])
+pub followed_front : (names : List (List ℕ)) (name : List ℕ) (b : ℕ) → IsFront names name → CanFollow names name b
+    → IsFront names (name ++ b ∷ [])
 followed_front names name b front can =
     let count = length-append name (b ∷ []) in
     record {
@@ -261,5 +274,6 @@ followed_front names name b front can =
       room = λ some. can.room;
     }
 
-pub followed_text : (names : List (List ℕ)) (name : List ℕ) (b : ℕ) → front_text names (name ++ b ∷ []) ≡ front_text names name ++ b ∷ []
+pub followed_text : (names : List (List ℕ)) (name : List ℕ) (b : ℕ)
+    → front_text names (name ++ b ∷ []) ≡ front_text names name ++ b ∷ []
 followed_text names name b = sym (append_assoc (list_text names) name (b ∷ []))

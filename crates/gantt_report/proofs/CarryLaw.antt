@@ -56,7 +56,8 @@ from_test l p h t line test =
     )
 
 -- the number of a move names it
-named : (l : LineData) (c k : ℕ) → k < last_stage l → ((move_at l (move_number l c k)).carrier ≡ c) × ((move_at l (move_number l c k)).step ≡ k)
+named : (l : LineData) (c k : ℕ) → k < last_stage l
+    → ((move_at l (move_number l c k)).carrier ≡ c) × ((move_at l (move_number l c k)).step ≡ k)
 named l c k lt = (div-mul-add c (last_stage l) k lt, mod-mul-add c (last_stage l) k lt)
 
 -- and only there
@@ -67,7 +68,9 @@ to_test l p h t there (c, k, z, turn, at) =
     let sum : p.start c k + u + z * p.period ≡ t + turn * p.period = omega (arith, at.from) in
     let tick : (p.start c k + u) % p.period ≡ t =
     sym (add-mul-mod_self_right (p.start c k + u) z p.period) ∙ ap (λ n. n % p.period) sum ∙ add-mul-mod_self_right t turn p.period ∙ mod-eq_of_lt there in
-    let by : carries_by l p h t c k ≡ true = some_at (duration (motion l p c k)) u (λ u. (p.hoist c k == h) && ((p.start c k + u) % p.period == t)) early (both_hold (p.hoist c k) h ((p.start c k + u) % p.period) t at.hoist tick) in
+    let by : carries_by l p h t c k ≡ true = some_at (duration (motion l p c k)) u
+    (λ u. (p.hoist c k == h) && ((p.start c k + u) % p.period == t)) early
+    (both_hold (p.hoist c k) h ((p.start c k + u) % p.period) t at.hoist tick) in
     let name = named l c k (omega (arith, at.move.1)) in
     some_at (move_count l) (move_number l c k) (λ i. carries_by l p h t (move_at l i).carrier (move_at l i).step) (move_below l c k at.move)
     (ap (λ x. carries_by l p h t x (move_at l (move_number l c k)).step) name.0 ∙ ap (λ y. carries_by l p h t c y) name.1 ∙ by)

@@ -28,14 +28,16 @@ AreDrawn l p t h row =
     (length row ≡ l.track + 1)
     × ((x : ℕ) → x < l.track + 1 → get_or row x 0 ≡ drawn l p t x (hoist_at h (λ i. position p i t) x))
 
-pub none_drawn : (l : LineData) (p : Timetable) (t : ℕ) (row : List ℕ) → row ≡ map (ground_cell l) (range_with_len 0 (l.track + 1))
+pub none_drawn : (l : LineData) (p : Timetable) (t : ℕ) (row : List ℕ)
+    → row ≡ map (ground_cell l) (range_with_len 0 (l.track + 1))
     → AreDrawn l p t 0 row
 none_drawn l p t row ground = (
   ap length ground ∙ length-map-range_with_len (ground_cell l) 0 (l.track + 1),
   λ x lt. ap (λ xs. get_or xs x 0) ground ∙ get_or-map-range_with_len (ground_cell l) 0 (l.track + 1) x x 0 lt (omega arith),
 )
 
-pub one_drawn : (l : LineData) (p : Timetable) (t h at mark : ℕ) (row new : List ℕ) → AreDrawn l p t h row → at ≡ position p h t
+pub one_drawn : (l : LineData) (p : Timetable) (t h at mark : ℕ) (row new : List ℕ) → AreDrawn l p t h row
+    → at ≡ position p h t
     → at < length row → mark ≡ hoist_cell h (carries l p h t) → new ≡ set row at mark → AreDrawn l p t (h + 1) new
 one_drawn l p t h at mark row new before place lt is after =
     let one : suc h ≡ h + 1 = omega arith in

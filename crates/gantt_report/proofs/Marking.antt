@@ -41,7 +41,8 @@ set_true xs i j lt =
 
 pub mark_more : (old marks : List Bool) (place : ℕ → ℕ) (u : ℕ) → place u < length marks
     → ((j : ℕ) → get_or marks j false ≡ (get_or old j false || list_any (λ v. place v == j) (range_with_len 0 u)))
-    → (j : ℕ) → get_or (set marks (place u) true) j false ≡ (get_or old j false || list_any (λ v. place v == j) (range_with_len 0 (u + 1)))
+    → (j : ℕ)
+    → get_or (set marks (place u) true) j false ≡ (get_or old j false || list_any (λ v. place v == j) (range_with_len 0 (u + 1)))
 mark_more old marks place u lt before j =
     let first = get_or old j false in
     let some = list_any (λ v. place v == j) (range_with_len 0 u) in
@@ -115,5 +116,6 @@ tick_marked old marks place u at here within before = (
   λ j. ap (λ i. get_or (set marks i true) j false) here ∙ mark_more old marks place u (omega (arith, here, within)) before.1 j,
 )
 
-pub room_is : (h row n hoist period count : ℕ) → h ≡ hoist → row ≡ period → n ≡ count → (hoist + 1) * period ≤ count → (h + 1) * row ≤ n
+pub room_is : (h row n hoist period count : ℕ) → h ≡ hoist → row ≡ period → n ≡ count → (hoist + 1) * period ≤ count
+    → (h + 1) * row ≤ n
 room_is h row n hoist period count a b c room = rw (a, b, c) room

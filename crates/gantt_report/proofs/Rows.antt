@@ -40,27 +40,31 @@ any_more n test =
     ap (list_any test) (range_more n) ∙ list_any-append test (range_with_len 0 n) (n ∷ []) ∙ last (list_any test (range_with_len 0 n)) (test n)
 
 -- one blank more
-pub blank_more : (old text new : List ℕ) (n : ℕ) → text ≡ old ++ replicate n 32 → new ≡ text ++ 32 ∷ [] → new ≡ old ++ replicate (n + 1) 32
+pub blank_more : (old text new : List ℕ) (n : ℕ) → text ≡ old ++ replicate n 32 → new ≡ text ++ 32 ∷ []
+    → new ≡ old ++ replicate (n + 1) 32
 blank_more old text new n before after =
     after ∙ ap (λ (xs : List ℕ). xs ++ 32 ∷ []) before ∙ append_assoc old (replicate n 32) (32 ∷ [])
     ∙ ap (λ (xs : List ℕ). old ++ xs) (replicate_more n 32)
 
 -- a word behind its blanks
-pub blanks_then : (old text new word : List ℕ) (n width : ℕ) → text ≡ old ++ replicate n 32 → n ≡ width - length word → new ≡ text ++ word
+pub blanks_then : (old text new word : List ℕ) (n width : ℕ) → text ≡ old ++ replicate n 32 → n ≡ width - length word
+    → new ≡ text ++ word
     → new ≡ old ++ right_in width word
 blanks_then old text new word n width before count after =
     after ∙ ap (λ (xs : List ℕ). xs ++ word) before ∙ append_assoc old (replicate n 32) word
     ∙ ap (λ k. old ++ (replicate k 32 ++ word)) count
 
 -- one cell more
-pub cell_more : (f : ℕ → ℕ) (n : ℕ) (xs new : List ℕ) (x : ℕ) → xs ≡ map f (range_with_len 0 n) → new ≡ xs ++ x ∷ [] → x ≡ f n
+pub cell_more : (f : ℕ → ℕ) (n : ℕ) (xs new : List ℕ) (x : ℕ) → xs ≡ map f (range_with_len 0 n) → new ≡ xs ++ x ∷ []
+    → x ≡ f n
     → new ≡ map f (range_with_len 0 (n + 1))
 cell_more f n xs new x before after is =
     after ∙ ap (λ (ys : List ℕ). ys ++ x ∷ []) before ∙ ap (λ y. map f (range_with_len 0 n) ++ y ∷ []) is
     ∙ sym (map-range_with_len_more f 0 n n (omega arith))
 
 -- one row more
-pub row_more : (l : LineData) (p : Timetable) (t : ℕ) (old text new row : List ℕ) → text ≡ old ++ flat_map (row_text l p) (range_with_len 0 t)
+pub row_more : (l : LineData) (p : Timetable) (t : ℕ) (old text new row : List ℕ)
+    → text ≡ old ++ flat_map (row_text l p) (range_with_len 0 t)
     → row ≡ map (cell l p t) (range_with_len 0 (l.track + 1))
     → new ≡ text ++ (right_in 5 (decimal t) ++ (codes " |" ++ (row ++ codes "|\n")))
     → new ≡ old ++ flat_map (row_text l p) (range_with_len 0 (t + 1))
@@ -69,12 +73,14 @@ row_more l p t old text new row before cells after =
     (after ∙ ap (λ (xs : List ℕ). text ++ (right_in 5 (decimal t) ++ (codes " |" ++ (xs ++ codes "|\n")))) cells)
 
 -- rows of cells are equally long
-pub same_length : (f g : ℕ → ℕ) (n : ℕ) (xs ys : List ℕ) → xs ≡ map f (range_with_len 0 n) → ys ≡ map g (range_with_len 0 n)
+pub same_length : (f g : ℕ → ℕ) (n : ℕ) (xs ys : List ℕ) → xs ≡ map f (range_with_len 0 n)
+    → ys ≡ map g (range_with_len 0 n)
     → length xs ≡ length ys
 same_length f g n xs ys a b = ap length a ∙ length-map-range_with_len f 0 n ∙ sym (ap length b ∙ length-map-range_with_len g 0 n)
 
 -- four parts, one behind the other
-pub four_parts : (old one two three new a b c d : List ℕ) → one ≡ old ++ a → two ≡ one ++ b → three ≡ two ++ c → new ≡ three ++ d
+pub four_parts : (old one two three new a b c d : List ℕ) → one ≡ old ++ a → two ≡ one ++ b → three ≡ two ++ c
+    → new ≡ three ++ d
     → new ≡ old ++ (a ++ (b ++ (c ++ d)))
 four_parts old one two three new a b c d first second third last =
     last ∙ ap (λ (xs : List ℕ). xs ++ d) third ∙ append_assoc two c d

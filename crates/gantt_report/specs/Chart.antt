@@ -13,7 +13,8 @@ use Rattle.gantt_report.specs.Places.{right_in}
 abbrev pub Carries : LineData → Timetable → ℕ → ℕ → Type 0
 Carries l p h t = (c : ℕ) × (k : ℕ) × (z : ℕ) × (turn : ℕ) × CarriesAt l p h c k z (later p turn t)
 
--- the same as a test: by some move of the hoist the tick comes, whole periods earlier or later, some ticks after the start ..
+-- the same as a test: by some move of the hoist the tick comes, whole periods earlier or later, some ticks after the
+-- start ..
 abbrev pub carries_by : LineData → Timetable → ℕ → ℕ → ℕ → ℕ → Bool
 carries_by l p h t c k =
     list_any (λ u. (p.hoist c k == h) && ((p.start c k + u) % p.period == t)) (range_with_len 0 (duration (motion l p c k)))

@@ -33,11 +33,13 @@ given_none true x h = absurd (none-some x (sym h))
 pub given_false : {X : Type 0} (b : Bool) (x : X) → b ≡ false → given b x ≡ None
 given_false b x h = rw h
 
-pub first_some_none : {X Y : Type 0} (h : X → Option Y) (xs : List X) → first_some h xs ≡ None → AllByRecursion (λ x. h x ≡ None) xs
+pub first_some_none : {X Y : Type 0} (h : X → Option Y) (xs : List X) → first_some h xs ≡ None
+    → AllByRecursion (λ x. h x ≡ None) xs
 first_some_none h [] e = tt
 first_some_none h (x ∷ xs) e = (or_left (h x) (first_some h xs) e, first_some_none h xs (or_right (h x) (first_some h xs) e))
 
-pub none_from_each : {X Y : Type 0} (h : X → Option Y) (xs : List X) → AllByRecursion (λ x. h x ≡ None) xs → first_some h xs ≡ None
+pub none_from_each : {X Y : Type 0} (h : X → Option Y) (xs : List X) → AllByRecursion (λ x. h x ≡ None) xs
+    → first_some h xs ≡ None
 none_from_each h [] e = refl
 none_from_each h (x ∷ xs) e = both_none (h x) (first_some h xs) e.0 (none_from_each h xs e.1)
 
@@ -60,7 +62,8 @@ in_range {Y} h (suc n) a i e low high =
       | inr no_later ↦ let same : i ≡ a = omega arith in rw same here
     ]
 
-pub none_at : {Y : Type 0} (h : ℕ → Option Y) (a n i : ℕ) → first_some h (numbers_from a n) ≡ None → a ≤ i → i < n → h i ≡ None
+pub none_at : {Y : Type 0} (h : ℕ → Option Y) (a n i : ℕ) → first_some h (numbers_from a n) ≡ None → a ≤ i → i < n
+    → h i ≡ None
 none_at h a n i e low high = in_range h (n - a) a i e low (omega arith)
 
 from_range : {Y : Type 0} (h : ℕ → Option Y) (n a : ℕ) → ((i : ℕ) → a ≤ i → i < a + n → h i ≡ None)
@@ -70,7 +73,8 @@ from_range h (suc n) a each =
     both_none (h a) (first_some h (range_with_len (a + 1) n)) (each a (omega arith) (omega arith)) (from_range h n (a + 1)
     (λ i low high. each i (omega arith) (omega arith)))
 
-pub none_everywhere : {Y : Type 0} (h : ℕ → Option Y) (a n : ℕ) → ((i : ℕ) → a ≤ i → i < n → h i ≡ None) → first_some h (numbers_from a n) ≡ None
+pub none_everywhere : {Y : Type 0} (h : ℕ → Option Y) (a n : ℕ) → ((i : ℕ) → a ≤ i → i < n → h i ≡ None)
+    → first_some h (numbers_from a n) ≡ None
 none_everywhere h a n each = from_range h (n - a) a (λ i low high. each i low (omega arith))
 
 -- tests of numbers from a on
@@ -86,10 +90,12 @@ any_in_range p (suc n) a i e low high =
 pub fails_at : (p : ℕ → Bool) (a n i : ℕ) → list_any p (numbers_from a n) ≡ false → a ≤ i → i < n → p i ≡ false
 fails_at p a n i e low high = any_in_range p (n - a) a i e low (omega arith)
 
-any_from_range : (p : ℕ → Bool) (n a : ℕ) → ((i : ℕ) → a ≤ i → i < a + n → p i ≡ false) → list_any p (range_with_len a n) ≡ false
+any_from_range : (p : ℕ → Bool) (n a : ℕ) → ((i : ℕ) → a ≤ i → i < a + n → p i ≡ false)
+    → list_any p (range_with_len a n) ≡ false
 any_from_range p zero a each = refl
 any_from_range p (suc n) a each =
     rw (each a (omega arith) (omega arith), any_from_range p n (a + 1) (λ i low high. each i (omega arith) (omega arith)))
 
-pub fails_everywhere : (p : ℕ → Bool) (a n : ℕ) → ((i : ℕ) → a ≤ i → i < n → p i ≡ false) → list_any p (numbers_from a n) ≡ false
+pub fails_everywhere : (p : ℕ → Bool) (a n : ℕ) → ((i : ℕ) → a ≤ i → i < n → p i ≡ false)
+    → list_any p (numbers_from a n) ≡ false
 fails_everywhere p a n each = any_from_range p (n - a) a (λ i low high. each i low (omega arith))

@@ -63,7 +63,8 @@ is_name_from name h = rw (le-leb 1 (length name) h.0, le-leb (length name) max_n
 
 module _ (l : LineData) (valid : IsLine l) where
   names_fine : bad_name l ≡ None
-  names_fine = none_everywhere (bad_name_at l) 0 (length l.tanks) (λ i low there. given_false _ _ (ap not (is_name_from (tank l i).name (valid.tanks.names i there))))
+  names_fine = none_everywhere (bad_name_at l) 0 (length l.tanks)
+      (λ i low there. given_false _ _ (ap not (is_name_from (tank l i).name (valid.tanks.names i there))))
 
   names_differ : twice_named l ≡ None
   names_differ =
@@ -83,7 +84,8 @@ module _ (l : LineData) (valid : IsLine l) where
   tanks_there =
       none_everywhere (no_tank_at l) 0 (length l.stages) (λ k low high.
       given_false _ _ (none_of (λ i. nat_le (length l.tanks) i) (stage l k).tanks (λ j there.
-      not_from (length l.tanks) (get_or (stage l k).tanks j 0) (valid.stages.there k (get_or (stage l k).tanks j 0) (Contains-get_or (stage l k).tanks j 0 there)))))
+      not_from (length l.tanks) (get_or (stage l k).tanks j 0)
+      (valid.stages.there k (get_or (stage l k).tanks j 0) (Contains-get_or (stage l k).tanks j 0 there)))))
 
   tanks_once : twice_tank l ≡ None
   tanks_once =
@@ -108,7 +110,8 @@ module _ (l : LineData) (valid : IsLine l) where
   no_window : (s : Stage) → s.max ≡ None → is_empty_window s ≡ false
   no_window s none = rw none
 
-  kept_window : (greatest : Option ℕ) (least : ℕ) → IfSome greatest (λ m. (least ≤ m) × (m ≤ max_dwell)) → option_map_or (λ m. nat_lt m least) greatest false ≡ false
+  kept_window : (greatest : Option ℕ) (least : ℕ) → IfSome greatest (λ m. (least ≤ m) × (m ≤ max_dwell))
+      → option_map_or (λ m. nat_lt m least) greatest false ≡ false
   kept_window None least h = refl
   kept_window (Some m) least h = not_below m least h.0
 
@@ -124,7 +127,9 @@ module _ (l : LineData) (valid : IsLine l) where
               subst (λ i. is_empty_window (stage l i) ≡ false) last (no_window (stage l (last_stage l)) valid.times.last.no_greatest)
           | inl inner ↦
               let before : k - 1 + 1 ≡ k = omega arith in
-              subst (λ i. is_empty_window (stage l i) ≡ false) before (kept_window (stage l (k - 1 + 1)).max (stage l (k - 1 + 1)).min (valid.times.greatest (k - 1) (omega arith)))
+              subst (λ i. is_empty_window (stage l i) ≡ false) before
+              (kept_window (stage l (k - 1 + 1)).max (stage l (k - 1 + 1)).min
+              (valid.times.greatest (k - 1) (omega arith)))
         ]
       ]
 
@@ -203,7 +208,8 @@ with_tank l k some =
     ]
 
 has_stages : (l : LineData) → no_tank l ≡ None → twice_tank l ≡ None → same_tank l ≡ None
-    → ((k : ℕ) → IsStageOf l k → (1 ≤ length (stage l k).tanks) × (length (stage l k).tanks ≤ max_tanks_of_stage)) → HasStages l
+    → ((k : ℕ) → IsStageOf l k → (1 ≤ length (stage l k).tanks) × (length (stage l k).tanks ≤ max_tanks_of_stage))
+    → HasStages l
 has_stages l unknown twice same count =
     let stages = length l.stages in
     record {
@@ -215,7 +221,8 @@ has_stages l unknown twice same count =
           let tanks = (stage l k).tanks in
           let fails = given_none _ _ (none_at (twice_tank_at l) 0 stages k twice (omega arith) (with_tank l k (omega arith))) in
           numbers_differ (get_or tanks a 0) (get_or tanks b 0)
-          (fails_at (has_at tanks a) (a + 1) (length tanks) b (fails_at (is_repeated tanks) 0 (length tanks) a fails (omega arith) (omega arith)) (omega arith) there);
+          (fails_at (has_at tanks a) (a + 1) (length tanks) b
+          (fails_at (is_repeated tanks) 0 (length tanks) a fails (omega arith) (omega arith)) (omega arith) there);
       moves_away = λ k i j step here next.
           numbers_differ i j (none_passes (λ y. i == y) (stage l (k + 1)).tanks j
           (none_passes (λ x. list_any (λ y. x == y) (stage l (k + 1)).tanks) (stage l k).tanks i
@@ -224,7 +231,8 @@ has_stages l unknown twice same count =
 
 -- ---- windows
 
-greatest_from : (o : Option ℕ) (least : ℕ) → IfSome o (λ m. (1 ≤ m) × (m ≤ max_dwell)) → option_map_or (λ m. nat_lt m least) o false ≡ false
+greatest_from : (o : Option ℕ) (least : ℕ) → IfSome o (λ m. (1 ≤ m) × (m ≤ max_dwell))
+    → option_map_or (λ m. nat_lt m least) o false ≡ false
     → IfSome o (λ m. (least ≤ m) × (m ≤ max_dwell))
 greatest_from None least h g = tt
 greatest_from (Some m) least h g = (ltb-false m least g, h.1)
@@ -264,7 +272,8 @@ line_from l ranges none =
 
 -- ==== and the numbers of a line are in their ranges
 
-above_one : (o : Option ℕ) (least : ℕ) → 1 ≤ least → IfSome o (λ m. (least ≤ m) × (m ≤ max_dwell)) → IfSome o (λ m. (1 ≤ m) × (m ≤ max_dwell))
+above_one : (o : Option ℕ) (least : ℕ) → 1 ≤ least → IfSome o (λ m. (least ≤ m) × (m ≤ max_dwell))
+    → IfSome o (λ m. (1 ≤ m) × (m ≤ max_dwell))
 above_one None least h g = tt
 above_one (Some m) least h g = (omega (arith, h, g.0), g.1)
 

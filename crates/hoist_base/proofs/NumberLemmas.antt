@@ -1,4 +1,5 @@
--- Moves and visits by number: each number below the count names one that is there, and the order of numbers is that of names.
+-- Moves and visits by number: each number below the count names one that is there, and the order of numbers is that of
+-- names.
 use Rattle.std.proofs.Common.{⊎_elim, ◌≡◌, ℕ, suc, ◌+◌, ◌*◌, ◌/◌, ◌%◌, ◌<◌, length, ap, sym, ◌∙◌, mod-eq_of_lt, arith}
 use Rattle.std.proofs.Math.Nat.{div-eq_of_lt}
 use Rattle.std.proofs.lemmas.Bool.{cases_lt}
@@ -19,12 +20,14 @@ row_below i d m some lt =
 pub place_below : (c k d m : ℕ) → c < d → k < m → c * m + k < d * m
 place_below c k d m row place = omega (arith, place, mul-le (suc c) m d m row (omega arith))
 
-pub move_there : (l : LineData) (i : ℕ) → IsLine l → i < move_count l → IsMove l (move_at l i).carrier (move_at l i).step
+pub move_there : (l : LineData) (i : ℕ) → IsLine l → i < move_count l
+    → IsMove l (move_at l i).carrier (move_at l i).step
 move_there l i line lt =
     let some : 0 < last_stage l = omega (arith, line.limits.stages.0) in
     (row_below i l.degree (last_stage l) some lt, omega (arith, mod_below i (last_stage l) some))
 
-pub visit_there : (l : LineData) (i : ℕ) → IsLine l → i < visit_count l → IsVisit l (visit_at l i).carrier (visit_at l i).stage
+pub visit_there : (l : LineData) (i : ℕ) → IsLine l → i < visit_count l
+    → IsVisit l (visit_at l i).carrier (visit_at l i).stage
 visit_there l i line lt =
     let some : 0 < length l.stages = omega (arith, line.limits.stages.0) in
     (row_below i l.degree (length l.stages) some lt, mod_below i (length l.stages) some)
@@ -36,14 +39,16 @@ pub number_of_visit : (l : LineData) (i : ℕ) → visit_number l (visit_at l i)
 number_of_visit l i = div-add-mod' i (length l.stages)
 
 -- and what stands at the number of a name is what has that name
-pub visit_named : (l : LineData) (v : VisitId) → IsVisit l v.carrier v.stage → visit_at l (visit_number l v.carrier v.stage) ≡ v
+pub visit_named : (l : LineData) (v : VisitId) → IsVisit l v.carrier v.stage
+    → visit_at l (visit_number l v.carrier v.stage) ≡ v
 visit_named l v there =
     let m = length l.stages in
     let with_carrier : ℕ → VisitId = λ x. record { carrier = x; stage = (v.carrier * m + v.stage) % m } in
     let with_stage : ℕ → VisitId = λ x. record { carrier = v.carrier; stage = x } in
     ap with_carrier (div-mul-add v.carrier m v.stage there.1) ∙ ap with_stage (mod-mul-add v.carrier m v.stage there.1)
 
-pub move_named : (l : LineData) (m : MoveId) → IsMove l m.carrier m.step → move_at l (move_number l m.carrier m.step) ≡ m
+pub move_named : (l : LineData) (m : MoveId) → IsMove l m.carrier m.step
+    → move_at l (move_number l m.carrier m.step) ≡ m
 move_named l m there =
     let n = last_stage l in
     let below : m.step < n = omega (arith, there.1) in

@@ -16,7 +16,8 @@ stage_of_place c k n lt =
     turned ∙ add-mul-mod_self_right k c n ∙ mod-eq_of_lt lt
 
 -- the first tank of every stage, visit by visit
-pub first_tanks : (l : LineData) (numbers : List ℕ) (count : ℕ) → IsSingle l → length numbers ≡ count → count ≡ l.degree * length l.stages
+pub first_tanks : (l : LineData) (numbers : List ℕ) (count : ℕ) → IsSingle l → length numbers ≡ count
+    → count ≡ l.degree * length l.stages
     → ((j : ℕ) → j < count → get_or numbers j 0 ≡ get_or (stage l (j % length l.stages)).tanks 0 0) → IsRoute l numbers
 first_tanks l numbers count single long is firsts = record {
   count = long ∙ is;

@@ -11,7 +11,8 @@ pub record HasEnds (l : LineData) : Type 0 where
   pub no_lower : (stage l 0).lower ≡ 0
   pub no_lift : (stage l (last_stage l)).lift ≡ 0
 
--- the number of tanks of stage k, the times of the move from it to the next, and the window of the next if that is an inner stage
+-- the number of tanks of stage k, the times of the move from it to the next, and the window of the next if that is an
+-- inner stage
 pub record HasRangesAt (l : LineData) (k : ℕ) : Type 0 where
   pub count : (1 ≤ length (stage l k).tanks) × (length (stage l k).tanks ≤ max_tanks_of_stage)
   pub lift : IsStep l k → (1 ≤ (stage l k).lift) × ((stage l k).lift ≤ max_lift)

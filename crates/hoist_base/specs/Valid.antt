@@ -42,7 +42,8 @@ pub record IsEnd (s : Stage) : Type 0 where
 pub record HasStages (l : LineData) : Type 0 where
   pub count : (k : ℕ) → IsStageOf l k → (1 ≤ length (stage l k).tanks) × (length (stage l k).tanks ≤ max_tanks_of_stage)
   pub there : (k i : ℕ) → Serves l i k → i < length l.tanks
-  pub once : (k a b : ℕ) → a < b → b < length (stage l k).tanks → get_or (stage l k).tanks a 0 ≢ get_or (stage l k).tanks b 0
+  pub once : (k a b : ℕ) → a < b → b < length (stage l k).tanks
+      → get_or (stage l k).tanks a 0 ≢ get_or (stage l k).tanks b 0
   pub moves_away : (k i j : ℕ) → IsStep l k → Serves l i k → Serves l j (k + 1) → i ≢ j
 
 -- times and windows of the stages
@@ -54,7 +55,8 @@ pub record HasTimes (l : LineData) : Type 0 where
   pub lift : (k : ℕ) → IsStep l k → (1 ≤ (stage l k).lift) × ((stage l k).lift ≤ max_lift)
   pub lower : (k : ℕ) → IsStep l k → (1 ≤ (stage l (k + 1)).lower) × ((stage l (k + 1)).lower ≤ max_lower)
   pub least : (k : ℕ) → IsStep l (k + 1) → (1 ≤ (stage l (k + 1)).min) × ((stage l (k + 1)).min ≤ max_dwell)
-  pub greatest : (k : ℕ) → IsStep l (k + 1) → IfSome (stage l (k + 1)).max (λ m. ((stage l (k + 1)).min ≤ m) × (m ≤ max_dwell))
+  pub greatest : (k : ℕ) → IsStep l (k + 1)
+      → IfSome (stage l (k + 1)).max (λ m. ((stage l (k + 1)).min ≤ m) × (m ≤ max_dwell))
 
 pub record IsLine (l : LineData) : Type 0 where
   pub limits : IsWithinLimits l

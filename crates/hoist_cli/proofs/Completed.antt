@@ -32,20 +32,24 @@ use Rattle.degree_sweep.specs.Claims.{is_settled}
 
 -- ---- files
 
-not_refused : (files : Files) (before after : ℕ) (name : List ℕ) (limit : ℕ) (status : Status) (text : List ℕ) → (Rose before after → ⊥)
-    → length (bytes_of files name) ≤ limit → IsFileRefusal (reading (Some files) before after) name limit status text → ⊥
+not_refused : (files : Files) (before after : ℕ) (name : List ℕ) (limit : ℕ) (status : Status) (text : List ℕ)
+    → (Rose before after → ⊥)
+    → length (bytes_of files name) ≤ limit → IsFileRefusal (reading (Some files) before after) name limit status text
+    → ⊥
 not_refused files before after name limit status text steady small is =
     ⊎_elim (λ (rose, _). steady rose) (λ (long, _). omega (arith, long, small)) is
 
 file_reply : (files : Files) (before after : ℕ) (name : List ℕ) (limit : ℕ) (Next : List ℕ → Replies) (status : Status) (text : List ℕ)
-    → (Rose before after → ⊥) → length (bytes_of files name) ≤ limit → AfterFile (reading (Some files) before after) name limit Next status text
+    → (Rose before after → ⊥) → length (bytes_of files name) ≤ limit
+    → AfterFile (reading (Some files) before after) name limit Next status text
     → Next (bytes_of files name) status text
 file_reply files before after name limit Next status text steady small is =
     ⊎_elim (λ refused. absurd (not_refused files before after name limit status text steady small refused))
     (λ (bytes, file, next). subst (λ (bs : List ℕ). Next bs status text) file.told next) is
 
 line_reply : (files : Files) (before after : ℕ) (name : List ℕ) (Next : LineData → Replies) (status : Status) (text : List ℕ) (l : LineData)
-    → (Rose before after → ⊥) → HoldsLine files name l → AfterLine (reading (Some files) before after) name Next status text → Next l status text
+    → (Rose before after → ⊥) → HoldsLine files name l
+    → AfterLine (reading (Some files) before after) name Next status text → Next l status text
 line_reply files before after name Next status text l steady holds is =
     ⊎_elim
     (⊎_elim (λ refused. absurd (not_refused files before after name line_limit status text steady holds.small refused))
@@ -85,12 +89,14 @@ swept status true (Some best) e = inl (inl e)
 swept status true None e = inl (inr e)
 
 drawn : (l : LineData) (Next : TimetableData → Replies) (timetable : Option TimetableData) (status : Status) (text : List ℕ)
-    → ((t : TimetableData) → Next t status text → status ≡ statuses.Done) → AfterLegal l Next timetable status text → IsDoneOrNegative status
+    → ((t : TimetableData) → Next t status text → status ≡ statuses.Done) → AfterLegal l Next timetable status text
+    → IsDoneOrNegative status
 drawn l Next timetable status text done is = ⊎_elim (λ (why, _, (e, _)). inr e) (λ (t, _, _, next). inl (done t next)) is
 
 -- ---- commands
 
-ends : (files : Files) (before after : ℕ) (request : Request) (status : Status) (text : List ℕ) → (Rose before after → ⊥)
+ends : (files : Files) (before after : ℕ) (request : Request) (status : Status) (text : List ℕ)
+    → (Rose before after → ⊥)
     → HasInputs files request → ReplyTo (reading (Some files) before after) (Some request) status text
     → Ends files request status
 ends files before after (Solve file budget workers) status text steady (l, holds) is =
@@ -125,7 +131,8 @@ ends files before after (Follow file log) status text steady holds is =
     file_reply files before after (string_bytes log) answer_limit (IsFollowOf holds.line) status text steady holds.small reply in
     at_end f followed e
   where
-    at_end : (f : Followed) → IsFollowed holds.line (bytes_of files (string_bytes log)) f → status ≡ status_of_followed f → IsDoneOrNegative status
+    at_end : (f : Followed) → IsFollowed holds.line (bytes_of files (string_bytes log)) f
+        → status ≡ status_of_followed f → IsDoneOrNegative status
     at_end (outcomes.Follows last end) followed e = inl e
     at_end (outcomes.Departs tick breach) followed e = inr e
     at_end (outcomes.Broken offset) followed e = absurd (followed.no_text holds.log holds.text.fits holds.text.text)
@@ -148,7 +155,8 @@ completeness files before after written now words status some holds steady quiet
     (⊎_elim (λ wanted. inr wanted) (λ (text, (request, has, reply)). inl (ended request text has reply)))
     run.reply
   where
-    ended : (request : Option Request) (text : List ℕ) → IsRequestOf words request → ReplyTo (reading (Some files) before after) request status text
+    ended : (request : Option Request) (text : List ℕ) → IsRequestOf words request
+        → ReplyTo (reading (Some files) before after) request status text
         → (asked : Request) × IsRequestOf words (Some asked) × Ends files asked status
     ended None text has reply = absurd (some has)
     ended (Some request) text has reply = (request, has, ends files before after request status text steady (holds request has) reply)

@@ -37,7 +37,8 @@ same_told seed l a b same =
     ∙ ap (λ (t : Option TimetableData). told_text seed l a.verdict a.bound a.splits t) (sym same.timetable)
 
 -- what is read of an answer's text
-pub read_as : (l : LineData) (a back : Answer) (bytes : List ℕ) (r : AnswerRead) → IsLine l → IsAnswer l a → bytes ≡ answer_text l a → IsRead l bytes r
+pub read_as : (l : LineData) (a back : Answer) (bytes : List ℕ) (r : AnswerRead) → IsLine l → IsAnswer l a
+    → bytes ≡ answer_text l a → IsRead l bytes r
     → r ≡ Ready back → IsAnswer l back × SayTheSame a back
 read_as l a back bytes r line answer e read is =
     let (b, ready, text, same) = text_is_read l a r line answer (subst (λ (x : List ℕ). IsRead l x r) e read) in
@@ -45,7 +46,8 @@ read_as l a back bytes r line answer e read is =
     let one : b ≡ back = cc in
     (subst (λ (x : Answer). IsAnswer l x) one text.answer, subst (λ (x : Answer). SayTheSame a x) one same)
 
-pub never_broken : (l : LineData) (a : Answer) (bytes : List ℕ) (r : AnswerRead) (offset : ℕ) → IsLine l → IsAnswer l a → bytes ≡ answer_text l a
+pub never_broken : (l : LineData) (a : Answer) (bytes : List ℕ) (r : AnswerRead) (offset : ℕ) → IsLine l → IsAnswer l a
+    → bytes ≡ answer_text l a
     → IsRead l bytes r → r ≡ Broken offset → ⊥
 never_broken l a bytes r offset line answer e read is =
     let (b, ready, text, same) = text_is_read l a r line answer (subst (λ (x : List ℕ). IsRead l x r) e read) in

@@ -32,13 +32,15 @@ use Rattle.track_log.specs.declared.followed.Followed.{Followed}
 use Rattle.track_log.specs.declared.followed.Followed.TheVariants.{Follows, Departs, Broken}
 use Rattle.hoist_cli.specs.Meaning.{IsSolveRun, IsAnswerRun, IsDrawn, IsDeclined, IsSweepRun, IsSweepBy, IsFollowRun, IsDone, IsNegative, Means}
 
-pub accepts_of : (l : LineData) (a : Answer) (checked : Checked) → (IsAccepted checked → KeepsRules l a) → (IsAccepted checked → NoneBelow l a.bound)
+pub accepts_of : (l : LineData) (a : Answer) (checked : Checked) → (IsAccepted checked → KeepsRules l a)
+    → (IsAccepted checked → NoneBelow l a.bound)
     → Accepts l a checked
 accepts_of l a (Accepted claimed) kept bounds = (kept tt, bounds tt)
 accepts_of l a (Rejected reason) kept bounds = tt
 
 -- the meaning of a status is that of any that equals it
-means : (status s : Status) (r : Reading) (words : List (List ℕ)) (old new : Option (List ℕ)) → status ≡ s → Means s r words old new
+means : (status s : Status) (r : Reading) (words : List (List ℕ)) (old new : Option (List ℕ)) → status ≡ s
+    → Means s r words old new
     → Means status r words old new
 means status s r words old new e is = subst (λ x. Means x r words old new) (sym e) is
 
@@ -80,19 +82,29 @@ verdict_means r words old new l budget a verdicts.Nothing run claim = inl (l, bu
 verdict_means r words old new l budget a verdicts.Unfinished run claim = inl (l, budget, a, run, claim)
 
 solve_means : (r : Reading) (words : List (List ℕ)) (old new : Option (List ℕ)) (file : List ℕ) (budget workers : ℕ) (status : Status) (text : List ℕ)
-    → AsksSolve words file budget workers → new ≡ appended old text → SolveReply r file budget status text → Means status r words old new
+    → AsksSolve words file budget workers → new ≡ appended old text → SolveReply r file budget status text
+    → Means status r words old new
 solve_means r words old new file budget workers status text asks written is =
     ⊎_elim (λ x. line_means r words old new file status text x)
     (λ (l, line, (a, solution, keeps, writable, e, printed)).
     let run : IsSolveRun r words old new l budget a =
-    record { file = file; workers = workers; asks = asks; line = line; solution = solution; writable = writable; printed = written ∙ ap (appended old) printed } in
+    record {
+      file = file;
+      workers = workers;
+      asks = asks;
+      line = line;
+      solution = solution;
+      writable = writable;
+      printed = written ∙ ap (appended old) printed;
+    } in
     means status (status_of a.verdict) r words old new e (verdict_means r words old new l budget a a.verdict run keeps))
     is
 
 -- ---- check
 
 checked_means : (r : Reading) (words : List (List ℕ)) (old new : Option (List ℕ)) (l : LineData) (a : Answer) (checked : Checked)
-    → IsAnswerRun (AsksCheck words) r l a → IsChecked l a checked → Accepts l a checked → Means (status_of_checked checked) r words old new
+    → IsAnswerRun (AsksCheck words) r l a → IsChecked l a checked → Accepts l a checked
+    → Means (status_of_checked checked) r words old new
 checked_means r words old new l a (Accepted claimed) run right accepts = inr (inl (l, a, run, accepts.0, accepts.1))
 checked_means r words old new l a (Rejected reason) run right accepts = inr (inl (l, a, reason, run, right))
 
@@ -164,7 +176,8 @@ followed_means r words old new l (Departs tick breach) run = inr (inr (inr (inr 
 followed_means r words old new l (Broken offset) run = tt
 
 follow_means : (r : Reading) (words : List (List ℕ)) (old new : Option (List ℕ)) (file log : List ℕ) (status : Status) (text : List ℕ)
-    → AsksFollow words file log → new ≡ appended old text → FollowReply r file log status text → Means status r words old new
+    → AsksFollow words file log → new ≡ appended old text → FollowReply r file log status text
+    → Means status r words old new
 follow_means r words old new file log status text asks written is =
     ⊎_elim (λ x. line_means r words old new file status text x)
     (λ (l, line, next).
@@ -189,7 +202,8 @@ follow_means r words old new file log status text asks written is =
 
 list_means : (r : Reading) (words : List (List ℕ)) (old new : Option (List ℕ)) (list : List ℕ) (budget workers : ℕ) (bytes : List ℕ)
     (read : ListRead) (status : Status) (text : List ℕ)
-    → AsksBatch words list budget workers → new ≡ appended old text → IsFile r.files list line_limit bytes → IsListRead bytes read
+    → AsksBatch words list budget workers → new ≡ appended old text → IsFile r.files list line_limit bytes
+    → IsListRead bytes read
     → AfterList r budget read status text → Means status r words old new
 list_means r words old new list budget workers bytes (lists.Ready names) status text asks written file is after =
     ⊎_elim (λ stop. file_means r words old new _ line_limit status text stop.refused)
@@ -215,7 +229,8 @@ list_means r words old new list budget workers bytes (lists.Broken offset) statu
 
 batch_means : (r : Reading) (words : List (List ℕ)) (old new : Option (List ℕ)) (list : List ℕ) (budget workers : ℕ) (status : Status)
     (text : List ℕ)
-    → AsksBatch words list budget workers → new ≡ appended old text → BatchReply r list budget status text → Means status r words old new
+    → AsksBatch words list budget workers → new ≡ appended old text → BatchReply r list budget status text
+    → Means status r words old new
 batch_means r words old new list budget workers status text asks written is =
     ⊎_elim (λ x. file_means r words old new list line_limit status text x)
     (λ (bytes, file, (read, right, after)). list_means r words old new list budget workers bytes read status text asks written file right after)
@@ -256,6 +271,7 @@ request_means r words old new status text (Some (Follow file log)) written asks 
 request_means r words old new status text (Some (Batch list budget workers)) written asks is =
     batch_means r words old new (string_bytes list) budget workers status text asks written is
 
-pub reply_means : (r : Reading) (words : List (List ℕ)) (old new : Option (List ℕ)) (status : Status) (text : List ℕ) → new ≡ appended old text
+pub reply_means : (r : Reading) (words : List (List ℕ)) (old new : Option (List ℕ)) (status : Status) (text : List ℕ)
+    → new ≡ appended old text
     → IsReply r words status text → Means status r words old new
 reply_means r words old new status text written (request, asks, is) = request_means r words old new status text request written asks is

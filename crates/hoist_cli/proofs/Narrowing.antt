@@ -18,7 +18,8 @@ pub refused_by : (These Those : Replies) (stop : Stop) → AreAmong These Those 
 refused_by These Those (Refused reply) among is = among reply.status reply.text.items is
 refused_by These Those Memory among is = tt
 
-pub given_by : (These Those : Replies) (replied : Result Reply Stop) → AreAmong These Those → Gives These replied → Gives Those replied
+pub given_by : (These Those : Replies) (replied : Result Reply Stop) → AreAmong These Those → Gives These replied
+    → Gives Those replied
 given_by These Those (Ok reply) among is = among reply.status reply.text.items is
 given_by These Those (Err stop) among is = refused_by These Those stop among is
 
@@ -29,7 +30,8 @@ settled_right Right (Err (Refused reply)) is = is
 settled_right Right (Err Memory) is = tt
 
 -- a reply, whether one stopped with it or not, is right
-pub settled_is : (Right : Replies) (replied : Result Reply Stop) (reply : Reply) → Gives Right replied → settled_of replied ≡ Some reply
+pub settled_is : (Right : Replies) (replied : Result Reply Stop) (reply : Reply) → Gives Right replied
+    → settled_of replied ≡ Some reply
     → Right reply.status reply.text.items
 settled_is Right replied reply is e =
     subst (λ (o : Option Reply). IfSome o (λ x. Right x.status x.text.items)) e (settled_right Right replied is)

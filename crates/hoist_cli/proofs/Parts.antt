@@ -31,7 +31,8 @@ same_status verdicts.Optimal = refl
 same_status verdicts.Nothing = refl
 same_status verdicts.Unfinished = refl
 
-part_solved : (r : Reading) (budget : ℕ) (name : List ℕ) (read : LineRead) (part : Single) → IsReadAs r.files name read → IsPart budget read part
+part_solved : (r : Reading) (budget : ℕ) (name : List ℕ) (read : LineRead) (part : Single) → IsReadAs r.files name read
+    → IsPart budget read part
     → IsSolvedPart r budget name part
 part_solved r budget name (Ready l) part seen is = (
   status_of is.answer.verdict,
@@ -92,12 +93,14 @@ reads_more files names i word name reads more read lt at is are one push =
     (pushed (IsReadAs files) (take i (words_of names)) reads name read are one))
 
 pub reads_all : (files : Option Files) (names : List (String Global)) (listed : List (List ℕ)) (i : ℕ) (reads : List LineRead)
-    → words_of names ≡ listed → length names ≤ i → AreReadAs files (take i (words_of names)) reads → AreReadAs files listed reads
+    → words_of names ≡ listed → length names ≤ i → AreReadAs files (take i (words_of names)) reads
+    → AreReadAs files listed reads
 reads_all files names listed i reads same all are =
     let whole : take i (words_of names) ≡ listed = take_all i (words_of names) (omega (arith, all, length-map names string_bytes)) ∙ same in
     subst (λ (ns : List (List ℕ)). AreReadAs files ns reads) whole are
 
-read_at : (files : Option Files) (names : List (List ℕ)) (i j : ℕ) (reads : List LineRead) → AreReadAs files (take i names) reads → j < i
+read_at : (files : Option Files) (names : List (List ℕ)) (i j : ℕ) (reads : List LineRead)
+    → AreReadAs files (take i names) reads → j < i
     → j < length names → (bytes : List ℕ) × IsFile files (get_or names j []) line_limit bytes
 read_at files [] i j reads are before lt = absurd (omega (arith, lt))
 read_at files (n ∷ ns) zero j reads are before lt = absurd (omega (arith, before))
@@ -110,7 +113,8 @@ read_at files (n ∷ ns) (suc i) (suc j) (d ∷ ds) are before lt =
 earlier : (before mid after : ℕ) → before ≤ mid → Rose mid after → Rose before after
 earlier before mid after le rose = omega (arith, le, rose)
 
-file_refused : (files files' : Option Files) (before mid after : ℕ) (name name' : List ℕ) (status : Status) (text : List ℕ) → files' ≡ files
+file_refused : (files files' : Option Files) (before mid after : ℕ) (name name' : List ℕ) (status : Status) (text : List ℕ)
+    → files' ≡ files
     → before ≤ mid → name' ≡ name → IsFileRefusal (reading files' mid after) name' line_limit status text
     → IsFileRefusal (reading files before after) name line_limit status text
 file_refused files files' before mid after name name' status text same le named is =
@@ -122,7 +126,8 @@ pub listed_refused : (files files' : Option Files) (before mid after : ℕ) (nam
     (word : String Global) (name : List ℕ) (reads : List LineRead) (stop : Stop)
     → words_of names ≡ listed → i < length names → word ≡ get_or names i word → name ≡ string_bytes word
     → AreReadAs files (take i (words_of names)) reads → files' ≡ files → before ≤ mid
-    → Refuses (IsFileRefusal (reading files' mid after) name line_limit) stop → Refuses (IsListedStop (reading files before after) listed) stop
+    → Refuses (IsFileRefusal (reading files' mid after) name line_limit) stop
+    → Refuses (IsListedStop (reading files before after) listed) stop
 listed_refused files files' before mid after names listed i word name reads stops.Memory listing lt at is are same le refused = tt
 listed_refused files files' before mid after names listed i word name reads (stops.Refused reply) listing lt at is are same le refused =
     subst (λ (ns : List (List ℕ)). IsListedStop (reading files before after) ns reply.status reply.text.items) listing (record {
@@ -138,14 +143,17 @@ listed_refused files files' before mid after names listed i word name reads (sto
     within = omega (arith, lt, length-map names string_bytes)
 
 -- what was found of a list is right of its bytes
-pub list_right : (bytes seen : List ℕ) (read : ListRead) (names : List (List ℕ)) → seen ≡ bytes → read ≡ lists.Ready names → IsListRead seen read
+pub list_right : (bytes seen : List ℕ) (read : ListRead) (names : List (List ℕ)) → seen ≡ bytes
+    → read ≡ lists.Ready names → IsListRead seen read
     → IsListRead bytes (lists.Ready names)
 list_right bytes seen read names same ready is =
     subst (λ (b : List ℕ). IsListRead b (lists.Ready names)) same (subst (λ (r : ListRead). IsListRead seen r) ready is)
 
 -- a stop at a file of a list, over the same files, after a moment before
-pub listed_still : (files files' : Option Files) (before mid after : ℕ) (names : List (List ℕ)) (stop : Stop) → files' ≡ files → before ≤ mid
-    → Refuses (IsListedStop (reading files' mid after) names) stop → Refuses (IsListedStop (reading files before after) names) stop
+pub listed_still : (files files' : Option Files) (before mid after : ℕ) (names : List (List ℕ)) (stop : Stop)
+    → files' ≡ files → before ≤ mid
+    → Refuses (IsListedStop (reading files' mid after) names) stop
+    → Refuses (IsListedStop (reading files before after) names) stop
 listed_still files files' before mid after names stops.Memory same le refused = tt
 listed_still files files' before mid after names (stops.Refused reply) same le refused = record {
   index = refused.index;

@@ -8,7 +8,8 @@ use Rattle.hoist_cli.specs.Meaning.{Means}
 use Rattle.hoist_cli.proofs.Meanings.{reply_means}
 
 -- a printed status means what it says
-pub means_by : (r : Reading) (words : List (List ℕ)) (old new : Option (List ℕ)) (status s : Status) (text : List ℕ) → new ≡ appended old text
+pub means_by : (r : Reading) (words : List (List ℕ)) (old new : Option (List ℕ)) (status s : Status) (text : List ℕ)
+    → new ≡ appended old text
     → IsReply r words status text → status ≡ s → Means s r words old new
 means_by r words old new status s text written is e = subst (λ x. Means x r words old new) e (reply_means r words old new status text written is)
 

@@ -32,7 +32,8 @@ small_budget (v ∷ w ∷ vs) n is = absurd is
 
 -- words that ask to solve a file have a reply of `solve` to this file
 replied : (r : Reading) (words : List (List ℕ)) (file : List ℕ) (budget workers : ℕ) (status : Status) (text : List ℕ) (request : Option Request)
-    → AsksSolve words file budget workers → IsRequestOf words request → ReplyTo r request status text → SolveReply r file budget status text
+    → AsksSolve words file budget workers → IsRequestOf words request → ReplyTo r request status text
+    → SolveReply r file budget status text
 replied r words file budget workers status text None asks has is = absurd (has _ _ _ asks)
 replied r words file budget workers status text (Some (Solve f b w)) asks has is =
     let (same, files, numbers) = one_asked _ _ _ _ _ _ _ has asks in
@@ -54,11 +55,14 @@ replied r words file budget workers status text (Some (Batch f b w)) asks has is
 abbrev IsEnd : ℕ → List ℕ → List ℕ → Status → List ℕ → Type 0
 IsEnd budget bytes name status text =
     ((line_limit < length bytes) × IsLineOf statuses.Long (codes "too long: ") name status text)
-    ⊎ (((why : Why) × (length bytes ≤ line_limit) × (bytes_read bytes ≡ Refused why) × IsLineOf statuses.Line (codes "line refused: ") (refusal_of why) status text)
+    ⊎ (((why : Why) × (length bytes ≤ line_limit) × (bytes_read bytes ≡ Refused why)
+    × IsLineOf statuses.Line (codes "line refused: ") (refusal_of why) status text)
     ⊎ ((l : LineData) × (length bytes ≤ line_limit) × (bytes_read bytes ≡ Ready l) × IsLine l × IsSolved budget l status text))
 
-ended : (files : Files) (before after : ℕ) (file : List ℕ) (budget : ℕ) (status : Status) (text : List ℕ) → status ≢ statuses.Read
-    → SolveReply (reading (Some files) before after) file budget status text → IsEnd budget (bytes_of files file) file status text
+ended : (files : Files) (before after : ℕ) (file : List ℕ) (budget : ℕ) (status : Status) (text : List ℕ)
+    → status ≢ statuses.Read
+    → SolveReply (reading (Some files) before after) file budget status text
+    → IsEnd budget (bytes_of files file) file status text
 ended files before after file budget status text unread is =
     ⊎_elim
     (⊎_elim (⊎_elim (λ (rose, (e, _)). absurd (unread e)) (λ (long, named). inl (long, named)))

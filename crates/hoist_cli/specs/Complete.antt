@@ -79,8 +79,8 @@ pub record IsSolveStatus (files : Files) (name : List ℕ) (budget : ℕ) (statu
   pub solution : IsSolution line budget answer
   pub is : status ≡ status_of answer.verdict
 
--- `sweep` finds a best, or that there is none, or spends its budget; the commands that read an answer or a log judge it;
--- `drill` and `batch` are done
+-- `sweep` finds a best, or that there is none, or spends its budget; the commands that read an answer or a log judge
+-- it; `drill` and `batch` are done
 abbrev pub Ends : Files → Request → Status → Type 0
 Ends files (Solve file budget workers) status = IsSolveStatus files (string_bytes file) budget status
 Ends files (Check file answer) status = IsDoneOrNegative status
@@ -94,16 +94,16 @@ Ends files (Batch list budget workers) status = status ≡ statuses.Done
 
 -- ---- a run of the program
 
--- what the contract of `hoist` says of the status with which it ends: the text of a reply to the words with this status was
--- printed, or a write failed, and then the sink's count rose, or memory was wanted
+-- what the contract of `hoist` says of the status with which it ends: the text of a reply to the words with this status
+-- was printed, or a write failed, and then the sink's count rose, or memory was wanted
 pub record IsRun (files : Files) (before after written now : ℕ) (words : List (List ℕ)) (status : Status) : Type 0 where
   pub reply : (status ≡ statuses.Write)
       ⊎ ((status ≡ statuses.Memory) ⊎ ((text : List ℕ) × IsReply (reading (Some files) before after) words status text))
   pub write : status ≡ statuses.Write → Rose written now
 
--- Where the words ask for something, the shelf tells its files, those of what they ask for are what it needs and within their
--- limits, and neither the count of failed reads nor that of failed writes has risen, a run ends with a status of what they ask
--- for, or memory was wanted.
+-- Where the words ask for something, the shelf tells its files, those of what they ask for are what it needs and within
+-- their limits, and neither the count of failed reads nor that of failed writes has risen, a run ends with a status of
+-- what they ask for, or memory was wanted.
 abbrev pub Completeness : Type 0
 Completeness =
     (files : Files) (before after written now : ℕ) (words : List (List ℕ)) (status : Status)

@@ -14,5 +14,6 @@ WorkersDoNotMatter =
     (files : Files) (before after before' after' : ℕ) (words words' : List (List ℕ)) (file : List ℕ) (budget workers workers' : ℕ)
     (status status' : Status) (text text' : List ℕ)
     → AsksSolve words file budget workers → AsksSolve words' file budget workers'
-    → IsReply (reading (Some files) before after) words status text → IsReply (reading (Some files) before' after') words' status' text'
+    → IsReply (reading (Some files) before after) words status text
+    → IsReply (reading (Some files) before' after') words' status' text'
     → status ≢ Read → status' ≢ Read → (status ≡ status') × (text ≡ text')

@@ -35,7 +35,8 @@ use Rattle.track_log.specs.declared.followed.Followed.TheVariants.{Follows, Depa
 use Rattle.track_log.specs.Following.{IsFollowed}
 use Rattle.track_log.specs.Texts.{followed_text}
 
--- the words ask to solve the line l of a file under a budget, and the text of this answer was printed, which is that of the search
+-- the words ask to solve the line l of a file under a budget, and the text of this answer was printed, which is that of
+-- the search
 pub record IsSolveRun (r : Reading) (words : List (List ℕ)) (old new : Option (List ℕ)) (l : LineData) (budget : ℕ) (a : Answer) : Type 0 where
   pub file : List ℕ
   pub workers : ℕ
@@ -84,8 +85,8 @@ pub record IsDrilled (words : List (List ℕ)) (old new : Option (List ℕ)) : T
   pub kept : KeepsRules (generated seed) answer
   pub printed : new ≡ appended old (drill_text seed (generated seed) answer)
 
--- the words ask for the sweep of the line l of a file, and its text was printed; no legal timetable of a degree has a period
--- below the bound of its row
+-- the words ask for the sweep of the line l of a file, and its text was printed; no legal timetable of a degree has a
+-- period below the bound of its row
 pub record IsSweepRun (r : Reading) (words : List (List ℕ)) (old new : Option (List ℕ)) (l : LineData) (upto budget : ℕ) (s : Swept) : Type 0 where
   pub file : List ℕ
   pub workers : ℕ
@@ -106,7 +107,8 @@ pub record IsSweepBy (settled : Bool) (best : Option ℕ) (r : Reading) (words :
   pub is_settled : is_settled swept.rows ≡ settled
   pub best_is : swept.best ≡ best
 
--- the words ask to follow the log of a file on the machine of the line l of another, and how far it is followed was printed
+-- the words ask to follow the log of a file on the machine of the line l of another, and how far it is followed was
+-- printed
 pub record IsFollowRun (r : Reading) (words : List (List ℕ)) (old new : Option (List ℕ)) (l : LineData) (f : Followed) : Type 0 where
   pub file : List ℕ
   pub log : List ℕ
@@ -117,8 +119,8 @@ pub record IsFollowRun (r : Reading) (words : List (List ℕ)) (old new : Option
   pub followed : IsFollowed l bytes f
   pub printed : new ≡ appended old (followed_text f)
 
--- the words ask to solve the lines of the files that a list names, and for each of them, in this order, what `solve` prints
--- was printed, with its status
+-- the words ask to solve the lines of the files that a list names, and for each of them, in this order, what `solve`
+-- prints was printed, with its status
 pub record IsBatchRun (r : Reading) (words : List (List ℕ)) (old new : Option (List ℕ)) : Type 0 where
   pub list : List ℕ
   pub budget : ℕ
@@ -133,8 +135,9 @@ pub record IsBatchRun (r : Reading) (words : List (List ℕ)) (old new : Option 
   pub solved : AllZip (IsSolvedPart r budget) names parts
   pub printed : new ≡ appended old (text_of parts)
 
--- a printed answer is optimal; a checked one keeps all rules; a run or a chart of a legal timetable is printed, or a drill; a
--- sweep is settled with a best degree; a log is followed to its last tick; the lines of a list are solved; the margin of a legal timetable is printed
+-- a printed answer is optimal; a checked one keeps all rules; a run or a chart of a legal timetable is printed, or a
+-- drill; a sweep is settled with a best degree; a log is followed to its last tick; the lines of a list are solved; the
+-- margin of a legal timetable is printed
 abbrev pub IsDone : Reading → List (List ℕ) → Option (List ℕ) → Option (List ℕ) → Type 0
 IsDone r words old new =
     ((l : LineData) × (budget : ℕ) × (a : Answer) × IsSolveRun r words old new l budget a × IsOptimal l a)
@@ -147,8 +150,9 @@ IsDone r words old new =
     ⊎ (IsBatchRun r words old new
     ⊎ IsDrawn (AsksMargin words) IsMarginOf r old new)))))))
 
--- a printed answer says that there is no timetable; a checked one has a first reason to be rejected; one whose timetable was
--- to be played or drawn has none that is legal; a sweep is settled without a best degree; a log departs from the rules
+-- a printed answer says that there is no timetable; a checked one has a first reason to be rejected; one whose
+-- timetable was to be played or drawn has none that is legal; a sweep is settled without a best degree; a log departs
+-- from the rules
 abbrev pub IsNegative : Reading → List (List ℕ) → Option (List ℕ) → Option (List ℕ) → Type 0
 IsNegative r words old new =
     ((l : LineData) × (budget : ℕ) × (a : Answer) × IsSolveRun r words old new l budget a × IsNothing l a)

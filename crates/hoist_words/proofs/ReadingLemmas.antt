@@ -75,13 +75,15 @@ dashed w rest e file = subst IsFileName e file refl
 
 -- known names
 
-pub known_tail : (names : List (List ℕ)) (item : Item) (items : List Item) → AreKnown names (item ∷ items) → AreKnown names items
+pub known_tail : (names : List (List ℕ)) (item : Item) (items : List Item) → AreKnown names (item ∷ items)
+    → AreKnown names items
 known_tail names item items known name value c = known name value (suc c.0, omega (arith, c.1), c.2)
 
 pub options_tail : (item : Item) (items : List Item) → AreOptions (item ∷ items) → AreOptions items
 options_tail = known_tail option_names
 
-pub known_name : (items : List Item) (name value : List ℕ) → AreOptions (Given name value ∷ items) → (m : Name) × (name ≡ name_of m)
+pub known_name : (items : List Item) (name value : List ℕ) → AreOptions (Given name value ∷ items)
+    → (m : Name) × (name ≡ name_of m)
 known_name items name value known = named name (known name value (0, omega arith, refl))
 
 abbrev name_in : Item → List ℕ
@@ -105,19 +107,22 @@ given_known m v items known name value (suc k, lt, e) = known name value (k, ome
 pub record Begins (item : Item) (words rest : List (List ℕ)) : Type 0 where
   pub says : (items : List Item) → Says items rest → Says (item ∷ items) words
   pub known : (items : List Item) → AreOptions items → AreOptions (item ∷ items)
-  pub only : (items : List Item) → Says items words → AreOptions items → (others : List Item) × (items ≡ item ∷ others) × Says others rest
+  pub only : (items : List Item) → Says items words → AreOptions items
+      → (others : List Item) × (items ≡ item ∷ others) × Says others rest
 
 no_words : (w : List ℕ) (ws : List (List ℕ)) → w ∷ ws ≡ [] → ⊥
 no_words w ws e = let f : suc (length ws) ≡ 0 = ap length e in omega (arith, f)
 
-pub only_file : (w : List ℕ) (ws : List (List ℕ)) (items : List Item) → IsFileName w → Says items (w ∷ ws) → AreOptions items
+pub only_file : (w : List ℕ) (ws : List (List ℕ)) (items : List Item) → IsFileName w → Says items (w ∷ ws)
+    → AreOptions items
     → (others : List Item) × (items ≡ File w ∷ others) × Says others ws
 only_file w ws [] file says known = absurd (no_words w ws says)
 only_file w ws (File name ∷ items) file (e, f, s) known = (items, ap (λ n. File n ∷ items) (sym e), s)
 only_file w ws (Given name value ∷ items) file (inl (e, s)) known = absurd (dashed w _ e file)
 only_file w ws (Given name value ∷ items) file (inr (e, s)) known = absurd (dashed w _ e file)
 
-pub only_joined : (m : Name) (v w : List ℕ) (ws : List (List ℕ)) (items : List Item) → w ≡ joined (name_of m) v → Says items (w ∷ ws) → AreOptions items
+pub only_joined : (m : Name) (v w : List ℕ) (ws : List (List ℕ)) (items : List Item) → w ≡ joined (name_of m) v
+    → Says items (w ∷ ws) → AreOptions items
     → (others : List Item) × (items ≡ Given (name_of m) v ∷ others) × Says others ws
 only_joined m v w ws [] is says known = absurd (no_words w ws says)
 only_joined m v w ws (File name ∷ items) is (e, f, s) known = absurd (dashed w _ is (subst IsFileName (sym e) f))
@@ -133,7 +138,8 @@ only_joined m v w ws (Given name value ∷ items) is (inr (e, s)) known =
 head_same : (a b : List ℕ) (more others : List (List ℕ)) → a ∷ more ≡ b ∷ others → (a ≡ b) × (more ≡ others)
 head_same a b more others e = (ap (λ (xs : List (List ℕ)). get_or xs 0 []) e, ap (drop 1) e)
 
-pub only_opening : (m : Name) (v w : List ℕ) (ws : List (List ℕ)) (items : List Item) → w ≡ opening (name_of m) → Says items (w ∷ v ∷ ws) → AreOptions items
+pub only_opening : (m : Name) (v w : List ℕ) (ws : List (List ℕ)) (items : List Item) → w ≡ opening (name_of m)
+    → Says items (w ∷ v ∷ ws) → AreOptions items
     → (others : List Item) × (items ≡ Given (name_of m) v ∷ others) × Says others ws
 only_opening m v w ws [] is says known = absurd (no_words w (v ∷ ws) says)
 only_opening m v w ws (File name ∷ items) is (e, f, s) known = absurd (dashed w _ is (subst IsFileName (sym e) f))
@@ -148,7 +154,8 @@ only_opening m v w ws (Given name value ∷ items) is (inr (e, (rest, ew, s))) k
     (items, ap (λ x. Given x value ∷ items) at ∙ ap (λ x. Given (name_of m) x ∷ items) (sym ev), subst (Says items) (sym er) s)
 
 -- an option's name as the last word says nothing
-pub none_opening : (m : Name) (w : List ℕ) (items : List Item) → w ≡ opening (name_of m) → Says items (w ∷ []) → AreOptions items → ⊥
+pub none_opening : (m : Name) (w : List ℕ) (items : List Item) → w ≡ opening (name_of m) → Says items (w ∷ [])
+    → AreOptions items → ⊥
 none_opening m w [] is says known = no_words w [] says
 none_opening m w (File name ∷ items) is (e, f, s) known = dashed w _ is (subst IsFileName (sym e) f)
 none_opening m w (Given name value ∷ items) is (inl (e, s)) known =
@@ -157,7 +164,8 @@ none_opening m w (Given name value ∷ items) is (inl (e, s)) known =
 none_opening m w (Given name value ∷ items) is (inr (e, (rest, ew, s))) known = no_words value rest (sym ew)
 
 -- nor does a word of another form
-pub none_other : (w : List ℕ) (ws : List (List ℕ)) (items : List Item) → IsForm w Other → Says items (w ∷ ws) → AreOptions items → ⊥
+pub none_other : (w : List ℕ) (ws : List (List ℕ)) (items : List Item) → IsForm w Other → Says items (w ∷ ws)
+    → AreOptions items → ⊥
 none_other w ws [] is says known = no_words w ws says
 none_other w ws (File name ∷ items) is (e, f, s) known = is.0 (subst IsFileName (sym e) f)
 none_other w ws (Given name value ∷ items) is (inl (e, s)) known =
@@ -174,14 +182,16 @@ begins_file w ws file = record {
   only = λ items. only_file w ws items file;
 }
 
-pub begins_joined : (m : Name) (v w : List ℕ) (ws : List (List ℕ)) → w ≡ joined (name_of m) v → Begins (Given (name_of m) v) (w ∷ ws) ws
+pub begins_joined : (m : Name) (v w : List ℕ) (ws : List (List ℕ)) → w ≡ joined (name_of m) v
+    → Begins (Given (name_of m) v) (w ∷ ws) ws
 begins_joined m v w ws is = record {
   says = λ items s. inl (is, s);
   known = given_known m v;
   only = λ items. only_joined m v w ws items is;
 }
 
-pub begins_opening : (m : Name) (v w : List ℕ) (ws : List (List ℕ)) → w ≡ opening (name_of m) → Begins (Given (name_of m) v) (w ∷ v ∷ ws) ws
+pub begins_opening : (m : Name) (v w : List ℕ) (ws : List (List ℕ)) → w ≡ opening (name_of m)
+    → Begins (Given (name_of m) v) (w ∷ v ∷ ws) ws
 begins_opening m v w ws is = record {
   says = λ items s. inr (is, (ws, refl, s));
   known = given_known m v;
@@ -189,7 +199,8 @@ begins_opening m v w ws is = record {
 }
 
 -- the first item of a reading
-begins : (item : Item) (items : List Item) (words : List (List ℕ)) → Says (item ∷ items) words → AreOptions (item ∷ items)
+begins : (item : Item) (items : List Item) (words : List (List ℕ)) → Says (item ∷ items) words
+    → AreOptions (item ∷ items)
     → (rest : List (List ℕ)) × Begins item words rest × Says items rest
 begins (File name) items [] says known = absurd says
 begins (File name) items (w ∷ ws) (e, f, s) known =
@@ -210,7 +221,8 @@ no_items (File name ∷ items) says = absurd says
 no_items (Given name value ∷ items) says = absurd says
 
 -- words have at most one reading
-pub one_reading : (a b : List Item) (words : List (List ℕ)) → Says a words → AreOptions a → Says b words → AreOptions b → a ≡ b
+pub one_reading : (a b : List Item) (words : List (List ℕ)) → Says a words → AreOptions a → Says b words → AreOptions b
+    → a ≡ b
 one_reading [] b words sa ka sb kb = no_items b (subst (Says b) sa sb)
 one_reading (item ∷ a) b words sa ka sb kb =
     let (rest, first, s) = begins item a words sa ka in
@@ -234,7 +246,8 @@ few_tail (Given name value) items (f, b, w, c, u) = (
 )
 
 -- what was found behind an item
-pub found_more : (item : Item) (words rest : List (List ℕ)) (found : Found) (more : Option Found) → Begins item words rest → IsFound rest (Some found)
+pub found_more : (item : Item) (words rest : List (List ℕ)) (found : Found) (more : Option Found)
+    → Begins item words rest → IsFound rest (Some found)
     → IsWith item found more → IsFound words more
 found_more item words rest found None first (items, says, known, fits) more_is = λ others says' known' few.
     let (behind, e, t) = first.only others says' known' in
@@ -244,26 +257,30 @@ found_more item words rest found None first (items, says, known, fits) more_is =
 found_more item words rest found (Some more) first (items, says, known, fits) more_is =
     (item ∷ items, first.says items says, first.known items known, more_is items fits)
 
-pub found_none : (item : Item) (words rest : List (List ℕ)) → Begins item words rest → IsFound rest None → IsFound words None
+pub found_none : (item : Item) (words rest : List (List ℕ)) → Begins item words rest → IsFound rest None
+    → IsFound words None
 found_none item words rest first none others says known few =
     let (behind, e, t) = first.only others says known in
     none behind t (options_tail item behind (subst AreOptions e known)) (few_tail item behind (subst AreFew e few))
 
 -- the same for words of which the spelling is known
 
-pub more_found : (item : Item) (words said rest : List (List ℕ)) (found : Found) (answer : Option Found) → words ≡ said → Begins item said rest
+pub more_found : (item : Item) (words said rest : List (List ℕ)) (found : Found) (answer : Option Found) → words ≡ said
+    → Begins item said rest
     → IsFound rest (Some found) → IsWith item found answer → IsFound words answer
 more_found item words said rest found answer e first h w =
     subst (λ x. IsFound x answer) (sym e) (found_more item said rest found answer first h w)
 
-pub none_found : (item : Item) (words said rest : List (List ℕ)) (answer : Option Found) → words ≡ said → Begins item said rest
+pub none_found : (item : Item) (words said rest : List (List ℕ)) (answer : Option Found) → words ≡ said
+    → Begins item said rest
     → IsFound rest None → answer ≡ None → IsFound words answer
 none_found item words said rest answer e first h none =
     subst (λ x. IsFound words x) (sym none) (subst (λ x. IsFound x None) (sym e) (found_none item said rest first h))
 
 -- ---- whether a value may be a number
 
-fit_by_first : (limits : Option Limits) (b : ℕ) (bs : List ℕ) (t : Bool) → is_some limits ≡ true → nat_eq b 45 ≡ t → IsOptionFit limits ((b ∷ bs) ∷ []) (not t)
+fit_by_first : (limits : Option Limits) (b : ℕ) (bs : List ℕ) (t : Bool) → is_some limits ≡ true → nat_eq b 45 ≡ t
+    → IsOptionFit limits ((b ∷ bs) ∷ []) (not t)
 fit_by_first limits b bs true some e = λ plain. true≢false (sym e ∙ ne_eqb b 45 plain.1)
 fit_by_first limits b bs false some e = (some, λ dash. true≢false (sym (ap (λ x. nat_eq x 45) dash) ∙ e))
 
@@ -272,8 +289,10 @@ fit_word : (limits : Option Limits) (w : List ℕ) → is_some limits ≡ true �
 fit_word limits [] some full = absurd (true≢false full)
 fit_word limits (b ∷ bs) some full = fit_by_first limits b bs (nat_eq b 45) some refl
 
-pub fit_value : (limits : Option Limits) (given : Option (Bor (List ℕ))) (value : Bor (List ℕ)) (bytes : List ℕ) → given ≡ Some value → bytes ≡ value.now
-    → is_some limits ≡ true → nat_eq (length value.now) 0 ≡ false → IsOptionFit limits (listed given) (not (nat_eq (slice_index_or bytes 0 0) 45))
+pub fit_value : (limits : Option Limits) (given : Option (Bor (List ℕ))) (value : Bor (List ℕ)) (bytes : List ℕ)
+    → given ≡ Some value → bytes ≡ value.now
+    → is_some limits ≡ true → nat_eq (length value.now) 0 ≡ false
+    → IsOptionFit limits (listed given) (not (nat_eq (slice_index_or bytes 0 0) 45))
 fit_value limits given value bytes e same some full =
     subst (λ g. IsOptionFit limits (listed g) (not (nat_eq (slice_index_or bytes 0 0) 45))) (sym e)
     (subst (λ w. IsOptionFit limits (value.now ∷ []) (not (nat_eq (slice_index_or w 0 0) 45))) (sym same) (fit_word limits value.now some full))

@@ -36,10 +36,12 @@ drop_words zero ws = refl
 drop_words (suc k) [] = refl
 drop_words (suc k) (w ∷ ws) = drop_words k ws
 
-pub behind_words : (k : ℕ) (ws : List (String Global)) → words_of (take (length ws - k) (drop k ws)) ≡ drop k (words_of ws)
+pub behind_words : (k : ℕ) (ws : List (String Global))
+    → words_of (take (length ws - k) (drop k ws)) ≡ drop k (words_of ws)
 behind_words k ws = ap words_of (take_all (length ws - k) (drop k ws) (omega (arith, length-drop k ws))) ∙ drop_words k ws
 
-pub head_words : (ws : List (String Global)) (w : String Global) (text : List ℕ) → 1 ≤ length ws → w ≡ get_or ws 0 w → text ≡ string_bytes w
+pub head_words : (ws : List (String Global)) (w : String Global) (text : List ℕ) → 1 ≤ length ws → w ≡ get_or ws 0 w
+    → text ≡ string_bytes w
     → words_of ws ≡ text ∷ words_of (take (length ws - 1) (drop 1 ws))
 head_words [] w text some is text_is = absurd (omega (arith, some))
 head_words (x ∷ ws) w text some is text_is =
@@ -56,7 +58,8 @@ only_once [] default least most n h = omega arith
 only_once (v ∷ []) default least most n h = omega arith
 only_once (v ∷ w ∷ vs) default least most n h = absurd h
 
-value_same : (vs : List (List ℕ)) (default least most m n : ℕ) → most < 2 ^ 64 → IsValue vs default least most m → IsValue vs default least most n → m ≡ n
+value_same : (vs : List (List ℕ)) (default least most m n : ℕ) → most < 2 ^ 64 → IsValue vs default least most m
+    → IsValue vs default least most n → m ≡ n
 value_same [] default least most m n small h g = h ∙ sym g
 value_same (v ∷ []) default least most m n small h g = decimal_injective m n (omega (arith, h.2)) (omega (arith, g.2)) (sym h.0 ∙ g.0)
 value_same (v ∷ w ∷ vs) default least most m n small h g = absurd h
@@ -67,7 +70,8 @@ given_count items =
     length (values_of is_budget items)
     + (length (values_of is_workers items) + (length (values_of is_carriers items) + length (values_of is_upto items)))
 
-one_more : (m : Name) (name value : List ℕ) (items : List Item) → name ≡ name_of m → given_count (Given name value ∷ items) ≡ suc (given_count items)
+one_more : (m : Name) (name value : List ℕ) (items : List Item) → name ≡ name_of m
+    → given_count (Given name value ∷ items) ≡ suc (given_count items)
 one_more m name value items is = subst (λ x. given_count (Given x value ∷ items) ≡ suc (given_count items)) (sym is) (at m)
   where
     at : (m : Name) → given_count (Given (name_of m) value ∷ items) ≡ suc (given_count items)
@@ -110,7 +114,8 @@ abbrev AreSmall : Option Limits → Type 0
 AreSmall None = Unit {0}
 AreSmall (Some l) = l.most < 2 ^ 64
 
-number_same : (limits : Option Limits) (vs : List (List ℕ)) (m n : ℕ) → AreSmall limits → IsNumber limits vs m → IsNumber limits vs n → m ≡ n
+number_same : (limits : Option Limits) (vs : List (List ℕ)) (m n : ℕ) → AreSmall limits → IsNumber limits vs m
+    → IsNumber limits vs n → m ≡ n
 number_same None vs m n small h g = h.1 ∙ sym g.1
 number_same (Some l) vs m n small h g = value_same vs l.default l.least l.most m n small h g
 
@@ -158,7 +163,8 @@ few_options c words files numbers a = (
   few_values (row_of c).upto (values_of is_upto a.items) numbers.upto a.upto_is,
 )
 
-few_asked : (c : CommandName) (words files : List (List ℕ)) (numbers : Numbers) (a : AsksFor c words files numbers) → AreFew a.items
+few_asked : (c : CommandName) (words files : List (List ℕ)) (numbers : Numbers) (a : AsksFor c words files numbers)
+    → AreFew a.items
 few_asked c words files numbers a =
     let (b, w, k, u) = few_options c words files numbers a in (
       omega (arith, a.count, at_most_two c),
@@ -180,7 +186,8 @@ nothing_found words none c files numbers a = none a.items a.says a.known (few_as
 some_same : (a b : List ℕ) → Some a ≡ Some b → a ≡ b
 some_same a b e = cc
 
-pub nothing_named : (words : List (List ℕ)) (text : List ℕ) → slice_get words 1 ≡ Some text → ((c : CommandName) → text ≡ name_of_command c → ⊥)
+pub nothing_named : (words : List (List ℕ)) (text : List ℕ) → slice_get words 1 ≡ Some text
+    → ((c : CommandName) → text ≡ name_of_command c → ⊥)
     → AskNothing words
 nothing_named words text named none c files numbers a = none c (some_same text (name_of_command c) (sym named ∙ a.named))
 
@@ -212,7 +219,8 @@ pub same_command : (c d : CommandName) → name_of_command c ≡ name_of_command
 same_command c d e = sym (command_is c) ∙ ap command_named e ∙ command_is d
 
 -- what is asked has the items that were found
-asked_items : (c d : CommandName) (words files : List (List ℕ)) (numbers : Numbers) (items : List Item) → slice_get words 1 ≡ Some (name_of_command c)
+asked_items : (c d : CommandName) (words files : List (List ℕ)) (numbers : Numbers) (items : List Item)
+    → slice_get words 1 ≡ Some (name_of_command c)
     → Says items (drop 2 words) → AreOptions items → (a : AsksFor d words files numbers) → (d ≡ c) × (a.items ≡ items)
 asked_items c d words files numbers items named says known a = (
   same_command d c (some_same (name_of_command d) (name_of_command c) (sym a.named ∙ named)),
@@ -253,7 +261,8 @@ plain_digits : (word : List ℕ) → 0 < length word → AllDigits 10 word → I
 plain_digits [] some digits = absurd (omega (arith, some))
 plain_digits (c ∷ cs) some digits = λ e. omega (arith, e, digit_from_value c digits.0)
 
-plain_number : (limits : Option Limits) (vs : List (List ℕ)) (n : ℕ) → AreSmall limits → IsNumber limits vs n → IsPlainFor limits vs
+plain_number : (limits : Option Limits) (vs : List (List ℕ)) (n : ℕ) → AreSmall limits → IsNumber limits vs n
+    → IsPlainFor limits vs
 plain_number None vs n small is = subst (IsPlainFor None) (sym is.0) tt
 plain_number (Some l) [] n small is = tt
 plain_number (Some l) (v ∷ []) n small is =
@@ -274,7 +283,8 @@ fits_at Workers items found fits = fits.workers
 fits_at Carriers items found fits = fits.carriers
 fits_at Upto items found fits = fits.upto
 
-pub nothing_fits : (c : CommandName) (words : List (List ℕ)) (found : Found) → slice_get words 1 ≡ Some (name_of_command c)
+pub nothing_fits : (c : CommandName) (words : List (List ℕ)) (found : Found)
+    → slice_get words 1 ≡ Some (name_of_command c)
     → IsFound (drop 2 words) (Some found) → IsFit (row_of c) found false → AskNothing words
 nothing_fits c words found named (items, says, known, fits) unfit d files numbers a =
     let (same, are) = asked_items c d words files numbers items named says known a in
@@ -303,7 +313,8 @@ listed_once Workers found = values_of_listed found.workers
 listed_once Carriers found = values_of_listed found.carriers
 listed_once Upto found = values_of_listed found.upto
 
-pub read_option : (m : Name) (matched : Matched) (items : List Item) (found : Found) → rows_of matched ≡ said_rows items 1 → Fits items found
+pub read_option : (m : Name) (matched : Matched) (items : List Item) (found : Found)
+    → rows_of matched ≡ said_rows items 1 → Fits items found
     → values (first_value matched (name_of m)) ≡ values_for m items
 read_option m matched items found rows fits =
     let are = fits_at m items found fits in
@@ -316,12 +327,14 @@ read_first matched items rows known = first_value-rows matched (codes "first") �
 
 -- a seed that is read is the one that is said
 
-seed_read : (greatest : Option ℕ) (placed : List (List ℕ)) (first : Option (List ℕ)) (n : ℕ) → first ≡ first_in placed → IsSeed greatest placed n
+seed_read : (greatest : Option ℕ) (placed : List (List ℕ)) (first : Option (List ℕ)) (n : ℕ) → first ≡ first_in placed
+    → IsSeed greatest placed n
     → IsSeed greatest (values first) n
 seed_read None placed first n e is = is
 seed_read (Some most) placed first n e (is, below) = (ap values (e ∙ ap first_in is), below)
 
-seed_said : (c : CommandName) (placed : List (List ℕ)) (first : Option (List ℕ)) (n : ℕ) → length placed ≡ (row_of c).files → first ≡ first_in placed
+seed_said : (c : CommandName) (placed : List (List ℕ)) (first : Option (List ℕ)) (n : ℕ)
+    → length placed ≡ (row_of c).files → first ≡ first_in placed
     → IsSeed (row_of c).seed (values first) n → IsSeed (row_of c).seed placed n
 seed_said command.Solve placed first n count e is = is
 seed_said command.Check placed first n count e is = is
@@ -335,21 +348,24 @@ seed_said command.Margin placed first n count e is = is
 seed_said command.Follow placed first n count e is = is
 seed_said command.Batch placed first n count e is = is
 
-files_read : (matched : Matched) (files : List (List ℕ)) → 1 ≤ length files → length files ≤ 2 → first_value matched (codes "first") ≡ first_in files
+files_read : (matched : Matched) (files : List (List ℕ)) → 1 ≤ length files → length files ≤ 2
+    → first_value matched (codes "first") ≡ first_in files
     → first_value matched (codes "second") ≡ first_in (drop 1 files) → AreFiles matched files
 files_read matched [] some few first second = absurd (omega (arith, some))
 files_read matched (f ∷ []) some few first second = first
 files_read matched (f ∷ g ∷ []) some few first second = (first, second, refl)
 files_read matched (f ∷ g ∷ h ∷ files) some few first second = absurd (omega (arith, few))
 
-pub read_files : (c : CommandName) (matched : Matched) (items : List Item) → rows_of matched ≡ said_rows items 1 → AreOptions items
+pub read_files : (c : CommandName) (matched : Matched) (items : List Item) → rows_of matched ≡ said_rows items 1
+    → AreOptions items
     → length (files_of items) ≡ (row_of c).files → AreFiles matched (files_of items)
 read_files c matched items rows known count =
     files_read matched (files_of items) (omega (arith, count, some_file c)) (omega (arith, count, at_most_two c))
     (read_first matched items rows known)
     (first_value-rows matched (codes "second") ∙ ap (first_of (codes "second")) rows ∙ second_read items known)
 
-files_same : (matched : Matched) (a b : List (List ℕ)) → AreFiles matched a → AreFiles matched b → length a ≡ length b → a ≡ b
+files_same : (matched : Matched) (a b : List (List ℕ)) → AreFiles matched a → AreFiles matched b → length a ≡ length b
+    → a ≡ b
 files_same matched [] b fa fb l = absurd fa
 files_same matched (x ∷ a) [] fa fb l = absurd fb
 files_same matched (x ∷ []) (y ∷ []) fa fb l = ap (λ f. f ∷ []) (some_same x y (sym fa ∙ fb))
@@ -358,13 +374,15 @@ files_same matched (x ∷ w ∷ a) (y ∷ []) fa fb l = absurd (omega (arith, l)
 files_same matched (x ∷ w ∷ a) (y ∷ z ∷ b) (f, s, n) (g, t, k) l =
     ap (λ h. h ∷ w ∷ a) (some_same x y (sym f ∙ g)) ∙ ap (λ h. y ∷ h ∷ a) (some_same w z (sym s ∙ t)) ∙ ap (λ h. y ∷ z ∷ h) (n ∙ sym k)
 
-files_under_same : (greatest : Option ℕ) (count : ℕ) (matched : Matched) (placed files : List (List ℕ)) → AreFiles matched placed → length placed ≡ count
+files_under_same : (greatest : Option ℕ) (count : ℕ) (matched : Matched) (placed files : List (List ℕ))
+    → AreFiles matched placed → length placed ≡ count
     → AreFilesOf greatest count matched files → files_under greatest placed ≡ files
 files_under_same None count matched placed files read l (k, are) = files_same matched placed files read are (l ∙ sym k)
 files_under_same (Some most) count matched placed files read l none = sym none
 
 -- the numbers that are read are those of the items
-numbers_read : (c : CommandName) (matched : Matched) (items : List Item) (found : Found) (numbers : Numbers) → rows_of matched ≡ said_rows items 1
+numbers_read : (c : CommandName) (matched : Matched) (items : List Item) (found : Found) (numbers : Numbers)
+    → rows_of matched ≡ said_rows items 1
     → AreOptions items
     → Fits items found → ((m : Name) → IsNumber (limits_of c m) (values_for m items) (number_at m numbers))
     → IsSeed (row_of c).seed (files_of items) numbers.seed → AreNumbers (row_of c) matched numbers
@@ -379,7 +397,8 @@ numbers_read c matched items found numbers rows known fits are seed = record {
     number : (m : Name) → IsNumber (limits_of c m) (values (first_value matched (name_of m))) (number_at m numbers)
     number m = subst (λ vs. IsNumber (limits_of c m) vs (number_at m numbers)) (sym (read_option m matched items found rows fits)) (are m)
 
-number_read : (m : Name) (c : CommandName) (matched : Matched) (numbers : Numbers) → AreNumbers (row_of c) matched numbers
+number_read : (m : Name) (c : CommandName) (matched : Matched) (numbers : Numbers)
+    → AreNumbers (row_of c) matched numbers
     → IsNumber (limits_of c m) (values (first_value matched (name_of m))) (number_at m numbers)
 number_read Budget c matched numbers are = are.budget
 number_read Workers c matched numbers are = are.workers
@@ -413,14 +432,16 @@ asked c words found matched (Some request) named items says known fits row rows 
       upto_is = number Upto;
     }
   where
-    number : (m : Name) → IsNumber (limits_of (command_in request) m) (values_for m items) (number_at m (numbers_in request))
+    number : (m : Name)
+        → IsNumber (limits_of (command_in request) m) (values_for m items) (number_at m (numbers_in request))
     number m = subst (λ d. IsNumber (limits_of d m) (values_for m items) (number_at m (numbers_in request))) (sym same)
         (subst (λ vs. IsNumber (limits_of c m) vs (number_at m (numbers_in request))) (read_option m matched items found rows fits)
         (number_read m c matched (numbers_in request) numbers))
 
 -- words ask for one request at most
 
-seed_same : (c : CommandName) (placed : List (List ℕ)) (m n : ℕ) → IsSeed (row_of c).seed placed m → IsSeed (row_of c).seed placed n → m ≡ n
+seed_same : (c : CommandName) (placed : List (List ℕ)) (m n : ℕ) → IsSeed (row_of c).seed placed m
+    → IsSeed (row_of c).seed placed n → m ≡ n
 seed_same command.Solve placed m n h g = h ∙ sym g
 seed_same command.Check placed m n h g = h ∙ sym g
 seed_same command.Run placed m n h g = h ∙ sym g
@@ -442,7 +463,8 @@ same_numbers n k same seed =
     ∙ ap₂ (λ c u. numbers_as k.budget k.workers c u n.seed) (same Carriers) (same Upto)
     ∙ ap (numbers_as k.budget k.workers k.carriers k.upto) seed
 
-pub one_asked : (words files files' : List (List ℕ)) (c c' : CommandName) (numbers numbers' : Numbers) → AsksFor c words files numbers
+pub one_asked : (words files files' : List (List ℕ)) (c c' : CommandName) (numbers numbers' : Numbers)
+    → AsksFor c words files numbers
     → AsksFor c' words files' numbers' → (c ≡ c') × (files ≡ files') × (numbers ≡ numbers')
 one_asked words files files' c c' numbers numbers' a b =
     let is = asked_items c c' words files' numbers' a.items a.named a.says a.known b in
@@ -456,7 +478,8 @@ one_asked words files files' c c' numbers numbers' a b =
 
 -- ---- the words of a call
 
-second_of : (xs : List (List ℕ)) (t : List ℕ) (ts : List (List ℕ)) → drop 1 xs ≡ t ∷ ts → (slice_get xs 1 ≡ Some t) × (drop 2 xs ≡ ts)
+second_of : (xs : List (List ℕ)) (t : List ℕ) (ts : List (List ℕ)) → drop 1 xs ≡ t ∷ ts
+    → (slice_get xs 1 ≡ Some t) × (drop 2 xs ≡ ts)
 second_of [] t ts e = let f : 0 ≡ suc (length ts) = ap length e in absurd (omega (arith, f))
 second_of (x ∷ []) t ts e = let f : 0 ≡ suc (length ts) = ap length e in absurd (omega (arith, f))
 second_of (x ∷ y ∷ xs) t ts e = (ap Some (ap (λ (ws : List (List ℕ)). get_or ws 0 []) e), ap (drop 1) e)
@@ -470,14 +493,16 @@ pub record IsCall (ws asked behind : List (String Global)) (text : List ℕ) : T
 abbrev pub tail_of : List (String Global) → List (String Global)
 tail_of ws = take (length ws - 1) (drop 1 ws)
 
-pub call_of : (ws : List (String Global)) (w : String Global) (text : List ℕ) → 1 ≤ length (tail_of ws) → w ≡ get_or (tail_of ws) 0 w → text ≡ string_bytes w
+pub call_of : (ws : List (String Global)) (w : String Global) (text : List ℕ) → 1 ≤ length (tail_of ws)
+    → w ≡ get_or (tail_of ws) 0 w → text ≡ string_bytes w
     → IsCall ws (tail_of ws) (tail_of (tail_of ws)) text
 call_of ws w text some is text_is =
     let head = head_words (tail_of ws) w text some is text_is in
     let (named, rest) = second_of (words_of ws) text (words_of (tail_of (tail_of ws))) (sym (behind_words 1 ws) ∙ head) in
     record { given = head; named = named; rest = sym rest }
 
-pub long_words : (n : ℕ) (ws asked behind : List (String Global)) (text : List ℕ) → IsCall ws asked behind text → n < length behind
+pub long_words : (n : ℕ) (ws asked behind : List (String Global)) (text : List ℕ) → IsCall ws asked behind text
+    → n < length behind
     → n < length (drop 2 (words_of ws))
 long_words n ws asked behind text call long =
     let e : length (words_of behind) ≡ length (drop 2 (words_of ws)) = ap length call.rest in

@@ -40,7 +40,8 @@ pub record Reaches (c : CommandName) (from : Walk) (words : List (List ℕ)) (go
   pub settles : Passes c rows pending
   pub are : rows_at c rows pending ≡ goal
 
-step : (c : CommandName) (s s' : Walk) (word : List ℕ) (words : List (List ℕ)) (goal : List Row) → turn_passes (shape c) [] s word ≡ true
+step : (c : CommandName) (s s' : Walk) (word : List ℕ) (words : List (List ℕ)) (goal : List Row)
+    → turn_passes (shape c) [] s word ≡ true
     → walked (rules c) [] s word ≡ s' → Reaches c s' words goal → Reaches c s (word ∷ words) goal
 unfolding walk_passes
 step c s s' word words goal turn e r = record {
@@ -53,11 +54,13 @@ step c s s' word words goal turn e r = record {
   are = r.are;
 }
 
-behind : (c : CommandName) (s : Walk) (words : List (List ℕ)) (rows more : List Row) (row : Row) → Reaches c s words ((rows ++ row ∷ []) ++ more)
+behind : (c : CommandName) (s : Walk) (words : List (List ℕ)) (rows more : List Row) (row : Row)
+    → Reaches c s words ((rows ++ row ∷ []) ++ more)
     → Reaches c s words (rows ++ row ∷ more)
 behind c s words rows more row r = subst (Reaches c s words) (append_assoc rows (row ∷ []) more) r
 
-pub walks : (c : CommandName) (items : List Item) (words : List (List ℕ)) (rows : List Row) (pending : Pending) (p : ℕ) → Says items words
+pub walks : (c : CommandName) (items : List Item) (words : List (List ℕ)) (rows : List Row) (pending : Pending) (p : ℕ)
+    → Says items words
     → AreNew c items p (rows_at c rows pending) → Passes c rows pending
     → Reaches c (at rows pending p idle) words (rows_at c rows pending ++ said_rows items p)
 unfolding walk_passes
@@ -170,7 +173,8 @@ option_said m (Given name v ∷ items) p = go (bytes_eq name (name_of m)) refl (
     go true e next = ap (λ n. Some (said n v)) (same_bytes name (name_of m) e)
     go false e next = next
 
-pub first_file : (items : List Item) → AreOptions items → row_in (codes "first") (said_rows items 1) ≡ first_said (codes "first") (files_of items)
+pub first_file : (items : List Item) → AreOptions items
+    → row_in (codes "first") (said_rows items 1) ≡ first_said (codes "first") (files_of items)
 first_file [] known = refl
 first_file (File w ∷ items) known = refl
 first_file (Given name v ∷ items) known =
@@ -178,7 +182,8 @@ first_file (Given name v ∷ items) known =
     let other : bytes_eq name (codes "first") ≡ false = ap (λ n. bytes_eq n (codes "first")) is ∙ option_not_id m true in
     rw (other) (first_file items (options_tail (Given name v) items known))
 
-later_file : (items : List Item) → AreOptions items → row_in (codes "second") (said_rows items 2) ≡ first_said (codes "second") (files_of items)
+later_file : (items : List Item) → AreOptions items
+    → row_in (codes "second") (said_rows items 2) ≡ first_said (codes "second") (files_of items)
 later_file [] known = refl
 later_file (File w ∷ items) known = refl
 later_file (Given name v ∷ items) known =
@@ -186,7 +191,8 @@ later_file (Given name v ∷ items) known =
     let other : bytes_eq name (codes "second") ≡ false = ap (λ n. bytes_eq n (codes "second")) is ∙ option_not_id m false in
     rw (other) (later_file items (options_tail (Given name v) items known))
 
-pub second_file : (items : List Item) → AreOptions items → row_in (codes "second") (said_rows items 1) ≡ first_said (codes "second") (drop 1 (files_of items))
+pub second_file : (items : List Item) → AreOptions items
+    → row_in (codes "second") (said_rows items 1) ≡ first_said (codes "second") (drop 1 (files_of items))
 second_file [] known = refl
 second_file (File w ∷ items) known = later_file items (options_tail (File w) items known)
 second_file (Given name v ∷ items) known =
@@ -196,11 +202,13 @@ second_file (Given name v ∷ items) known =
 
 -- ---- room for the items
 
-has_more : (id other v : List ℕ) (rows : List Row) → has_row id rows ≡ false → bytes_eq other id ≡ false → has_row id (rows ++ said other v ∷ []) ≡ false
+has_more : (id other v : List ℕ) (rows : List Row) → has_row id rows ≡ false → bytes_eq other id ≡ false
+    → has_row id (rows ++ said other v ∷ []) ≡ false
 has_more id other v [] none differ = rw (differ) refl
 has_more id other v (r ∷ rows) none differ = go (bytes_eq r.id id) none (λ n. has_more id other v rows n differ)
   where
-    go : (b : Bool) → (b || has_row id rows) ≡ false → (has_row id rows ≡ false → has_row id (rows ++ said other v ∷ []) ≡ false)
+    go : (b : Bool) → (b || has_row id rows) ≡ false
+        → (has_row id rows ≡ false → has_row id (rows ++ said other v ∷ []) ≡ false)
         → (b || has_row id (rows ++ said other v ∷ [])) ≡ false
     go true e next = absurd cc
     go false e next = next e
@@ -246,7 +254,8 @@ other_place (suc zero) (suc zero) a b c = absurd (omega (arith, b))
 other_place (suc zero) (suc (suc (suc q))) a b c = absurd (omega (arith, c))
 other_place (suc (suc p)) q a b c = absurd (omega (arith, b, c))
 
-room_after_file : (c : CommandName) (m : Name) (w : List ℕ) (items : List Item) (p : ℕ) (rows : List Row) → HasRoom c m (File w ∷ items) rows
+room_after_file : (c : CommandName) (m : Name) (w : List ℕ) (items : List Item) (p : ℕ) (rows : List Row)
+    → HasRoom c m (File w ∷ items) rows
     → HasRoom c m items (rows ++ said (id_at p) w ∷ [])
 room_after_file c m w items p rows room = record {
   once = room.once;
@@ -255,11 +264,13 @@ room_after_file c m w items p rows room = record {
   plain = room.plain;
 }
 
-room_after_option : (c : CommandName) (m : Name) (name v : List ℕ) (items : List Item) (rows : List Row) → HasRoom c m (Given name v ∷ items) rows
+room_after_option : (c : CommandName) (m : Name) (name v : List ℕ) (items : List Item) (rows : List Row)
+    → HasRoom c m (Given name v ∷ items) rows
     → HasRoom c m items (rows ++ said name v ∷ [])
 room_after_option c m name v items rows room = go (bytes_eq name (name_of m)) refl room.once room.free room.takes room.plain
   where
-    go : (b : Bool) → bytes_eq name (name_of m) ≡ b → length (if b then v ∷ values_for m items else values_for m items) ≤ 1
+    go : (b : Bool) → bytes_eq name (name_of m) ≡ b
+        → length (if b then v ∷ values_for m items else values_for m items) ≤ 1
         → (0 < length (if b then v ∷ values_for m items else values_for m items) → has_row (name_of m) rows ≡ false)
         → (0 < length (if b then v ∷ values_for m items else values_for m items) → Takes c m)
         → ((u : List ℕ) (us : List (List ℕ)) → (if b then v ∷ values_for m items else values_for m items) ≡ u ∷ us → IsFileName u)
@@ -277,7 +288,8 @@ room_after_option c m name v items rows room = go (bytes_eq name (name_of m)) re
       plain = plain;
     }
 
-places_after_file : (c : CommandName) (w : List ℕ) (items : List Item) (p : ℕ) (rows : List Row) → HavePlaces c (File w ∷ items) p rows
+places_after_file : (c : CommandName) (w : List ℕ) (items : List Item) (p : ℕ) (rows : List Row)
+    → HavePlaces c (File w ∷ items) p rows
     → HavePlaces c items (suc p) (rows ++ said (id_at p) w ∷ [])
 places_after_file c w items p rows places = record {
   least = omega (arith, places.least);
@@ -285,7 +297,8 @@ places_after_file c w items p rows places = record {
   free = λ q least most. has_more (id_at q) (id_at p) w rows (places.free q (omega (arith, least)) most) (other_place p q places.least least most);
 }
 
-places_after_option : (c : CommandName) (m : Name) (v : List ℕ) (items : List Item) (p : ℕ) (rows : List Row) → HavePlaces c items p rows
+places_after_option : (c : CommandName) (m : Name) (v : List ℕ) (items : List Item) (p : ℕ) (rows : List Row)
+    → HavePlaces c items p rows
     → HavePlaces c items p (rows ++ said (name_of m) v ∷ [])
 places_after_option c m v items p rows places = record {
   least = places.least;
@@ -293,7 +306,8 @@ places_after_option c m v items p rows places = record {
   free = λ q least most. has_more (id_at q) (name_of m) v rows (places.free q least most) (option_not_id m (q == 1));
 }
 
-first_value_plain : (c : CommandName) (m : Name) (name v : List ℕ) (items : List Item) (rows : List Row) → name ≡ name_of m
+first_value_plain : (c : CommandName) (m : Name) (name v : List ℕ) (items : List Item) (rows : List Row)
+    → name ≡ name_of m
     → HasRoom c m (Given name v ∷ items) rows
     → Takes c m × IsFileName v × (has_row name rows ≡ false)
 first_value_plain c m name v items rows is room =
@@ -305,7 +319,8 @@ first_value_plain c m name v items rows is room =
       subst (λ n. has_row n rows ≡ false) (sym is) (room.free (omega (arith, l))),
     )
 
-pub are_new : (c : CommandName) (items : List Item) (p : ℕ) (rows : List Row) → AreOptions items → HavePlaces c items p rows
+pub are_new : (c : CommandName) (items : List Item) (p : ℕ) (rows : List Row) → AreOptions items
+    → HavePlaces c items p rows
     → ((m : Name) → HasRoom c m items rows) → AreNew c items p rows
 are_new c [] p rows known places room = tt
 are_new c (File w ∷ items) p rows known places room = (
@@ -332,7 +347,8 @@ same_if : {X : Type 0} (b : Bool) (x : X) → (if b then x else x) ≡ x
 same_if true x = refl
 same_if false x = refl
 
-finished_is : (c : CommandName) (rows : List Row) (pending : Pending) → finished (rules c) (held rows pending) ≡ rows_at c rows pending
+finished_is : (c : CommandName) (rows : List Row) (pending : Pending)
+    → finished (rules c) (held rows pending) ≡ rows_at c rows pending
 finished_is Solve rows pending = simp (same_if) refl
 finished_is Check rows pending = simp (same_if) refl
 finished_is Run rows pending = simp (same_if) refl
@@ -344,12 +360,15 @@ finished_is Follow rows pending = simp (same_if) refl
 finished_is Batch rows pending = simp (same_if) refl
 
 -- a list that has a first word says its row
-some_said : (id : List ℕ) (vs : List (List ℕ)) (r : Option Row) → r ≡ first_said id vs → 1 ≤ length vs → (w : List ℕ) × (r ≡ Some (said id w))
+some_said : (id : List ℕ) (vs : List (List ℕ)) (r : Option Row) → r ≡ first_said id vs → 1 ≤ length vs
+    → (w : List ℕ) × (r ≡ Some (said id w))
 some_said id [] r e some = absurd (omega (arith, some))
 some_said id (v ∷ vs) r e some = (v, e)
 
-valid_rows : (c : CommandName) (rows : List Row) → (w : List ℕ) × (row_in (codes "first") rows ≡ Some (said (codes "first") w))
-    → (HasSecond c → (v : List ℕ) × (row_in (codes "second") rows ≡ Some (said (codes "second") v))) → is_valid (shape c) rows false ≡ true
+valid_rows : (c : CommandName) (rows : List Row)
+    → (w : List ℕ) × (row_in (codes "first") rows ≡ Some (said (codes "first") w))
+    → (HasSecond c → (v : List ℕ) × (row_in (codes "second") rows ≡ Some (said (codes "second") v)))
+    → is_valid (shape c) rows false ≡ true
 valid_rows Solve rows (w, first) second = simp (first) refl
 valid_rows Check rows (w, first) second = let (v, other) = second (omega arith) in simp (first, other) refl
 valid_rows Run rows (w, first) second = let (v, other) = second (omega arith) in simp (first, other) refl
@@ -420,7 +439,8 @@ taken_at_end Margin rows pending p passes is = rw (passes, defaults_pass Margin,
 taken_at_end Follow rows pending p passes is = rw (passes, defaults_pass Follow, finished_is Follow rows pending, is) refl
 taken_at_end Batch rows pending p passes is = rw (passes, defaults_pass Batch, finished_is Batch rows pending, is) refl
 
-pub words_taken : (c : CommandName) (items : List Item) (word : List ℕ) (words : List (List ℕ)) → Says items words → AreOptions items
+pub words_taken : (c : CommandName) (items : List Item) (word : List ℕ) (words : List (List ℕ)) → Says items words
+    → AreOptions items
     → length (files_of items) ≡ (row_of c).files → AreNew c items 1 [] → takes (app_for c) (word ∷ words) ≡ true
 words_taken c items word words says known count new =
     let r = walks c items words [] None 1 says new refl in
@@ -439,7 +459,8 @@ matches_as Margin word words = refl
 matches_as Follow word words = refl
 matches_as Batch word words = refl
 
-pub words_read : (c : CommandName) (items : List Item) (word : List ℕ) (words : List (List ℕ)) → Says items words → AreNew c items 1 []
+pub words_read : (c : CommandName) (items : List Item) (word : List ℕ) (words : List (List ℕ)) → Says items words
+    → AreNew c items 1 []
     → matches_of (app_for c) (word ∷ words) ≡ said_rows items 1
 words_read c items word words says new =
     let r = walks c items words [] None 1 says new refl in
@@ -491,7 +512,8 @@ takes_if Batch Workers some = tt
 takes_if Batch Carriers some = absurd (true≢false (sym some))
 takes_if Batch Upto some = absurd (true≢false (sym some))
 
-room_of : (c : CommandName) (m : Name) (items : List Item) (given : Option (Bor (List ℕ))) → values_for m items ≡ listed given
+room_of : (c : CommandName) (m : Name) (items : List Item) (given : Option (Bor (List ℕ)))
+    → values_for m items ≡ listed given
     → IsPlainFor (limits_of c m) (listed given) → HasRoom c m items []
 room_of c m items None e plain =
     let l : length (values_for m items) ≡ 0 = ap length e in record {
@@ -509,7 +531,8 @@ room_of c m items (Some word) e plain =
           subst IsFileName (ap (λ (xs : List (List ℕ)). get_or xs 0 []) same) plain.1;
     }
 
-pub new_found : (c : CommandName) (items : List Item) (found : Found) → AreOptions items → Fits items found → FitsRow (row_of c) found → AreNew c items 1 []
+pub new_found : (c : CommandName) (items : List Item) (found : Found) → AreOptions items → Fits items found
+    → FitsRow (row_of c) found → AreNew c items 1 []
 new_found c items found known fits row =
     let count : length (files_of items) ≡ (row_of c).files = ap length fits.files ∙ row.files in
     are_new c items 1 [] known (record { least = omega arith; fit = omega (arith, count); free = λ q least most. refl })
@@ -534,13 +557,16 @@ first_of_said : (id : List ℕ) (vs : List (List ℕ)) → value_of_row (first_s
 first_of_said id [] = refl
 first_of_said id (v ∷ vs) = refl
 
-pub option_read : (m : Name) (items : List Item) → first_of (name_of m) (said_rows items 1) ≡ first_in (values_for m items)
+pub option_read : (m : Name) (items : List Item)
+    → first_of (name_of m) (said_rows items 1) ≡ first_in (values_for m items)
 option_read m items = ap value_of_row (option_said m items 1) ∙ first_of_said (name_of m) (values_for m items)
 
-pub first_read : (items : List Item) → AreOptions items → first_of (codes "first") (said_rows items 1) ≡ first_in (files_of items)
+pub first_read : (items : List Item) → AreOptions items
+    → first_of (codes "first") (said_rows items 1) ≡ first_in (files_of items)
 first_read items known = ap value_of_row (first_file items known) ∙ first_of_said (codes "first") (files_of items)
 
-pub second_read : (items : List Item) → AreOptions items → first_of (codes "second") (said_rows items 1) ≡ first_in (drop 1 (files_of items))
+pub second_read : (items : List Item) → AreOptions items
+    → first_of (codes "second") (said_rows items 1) ≡ first_in (drop 1 (files_of items))
 second_read items known = ap value_of_row (second_file items known) ∙ first_of_said (codes "second") (drop 1 (files_of items))
 
 first_true : (a b : Bool) → (a && b) ≡ true → a ≡ true

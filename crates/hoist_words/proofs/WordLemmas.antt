@@ -218,7 +218,8 @@ held rows pending = record { rows = rows; pending = pending; skip = 0 }
 abbrev pub Passes : CommandName → List Row → Pending → Type 0
 Passes c rows pending = settle_passes (rules c) false (held rows pending) ≡ true
 
-pub opening_passes : (c : CommandName) (m : Name) (rows : List Row) (pending : Pending) (p : ℕ) → Takes c m → Passes c rows pending
+pub opening_passes : (c : CommandName) (m : Name) (rows : List Row) (pending : Pending) (p : ℕ) → Takes c m
+    → Passes c rows pending
     → turn_passes (shape c) [] (at rows pending p idle) (opening (name_of m)) ≡ true
 unfolding clap_on_literals
 opening_passes Solve Budget rows pending p takes passes = simp (passes) refl
@@ -276,7 +277,8 @@ value_passes Batch Workers rows p (b ∷ bs) takes plain = simp (no_dash b plain
 value_passes Batch Carriers rows p v takes plain = absurd takes
 value_passes Batch Upto rows p v takes plain = absurd takes
 
-pub joined_passes : (c : CommandName) (m : Name) (rows : List Row) (pending : Pending) (p : ℕ) (v : List ℕ) → Takes c m → Passes c rows pending
+pub joined_passes : (c : CommandName) (m : Name) (rows : List Row) (pending : Pending) (p : ℕ) (v : List ℕ) → Takes c m
+    → Passes c rows pending
     → has_row (name_of m) (rows_at c rows pending) ≡ false
     → turn_passes (shape c) [] (at rows pending p idle) (joined (name_of m) v) ≡ true
 unfolding clap_on_literals
@@ -302,7 +304,8 @@ joined_passes Batch Workers rows pending p v takes passes new = simp (passes, ne
 joined_passes Batch Carriers rows pending p v takes passes new = absurd takes
 joined_passes Batch Upto rows pending p v takes passes new = absurd takes
 
-first_passes : (c : CommandName) (rows : List Row) (pending : Pending) (w : List ℕ) → IsFileName w → Passes c rows pending
+first_passes : (c : CommandName) (rows : List Row) (pending : Pending) (w : List ℕ) → IsFileName w
+    → Passes c rows pending
     → turn_passes (shape c) [] (at rows pending 1 idle) w ≡ true
 unfolding clap_on_literals
 first_passes c rows pending [] plain passes = absurd plain
@@ -316,7 +319,8 @@ first_passes Margin rows pending (b ∷ bs) plain passes = simp (no_dash b plain
 first_passes Follow rows pending (b ∷ bs) plain passes = simp (no_dash b plain, passes, and_false) refl
 first_passes Batch rows pending (b ∷ bs) plain passes = simp (no_dash b plain, passes, and_false) refl
 
-second_passes : (c : CommandName) (rows : List Row) (pending : Pending) (w : List ℕ) → HasSecond c → IsFileName w → Passes c rows pending
+second_passes : (c : CommandName) (rows : List Row) (pending : Pending) (w : List ℕ) → HasSecond c → IsFileName w
+    → Passes c rows pending
     → turn_passes (shape c) [] (at rows pending 2 idle) w ≡ true
 unfolding clap_on_literals
 second_passes c rows pending [] second plain passes = absurd plain
@@ -332,7 +336,8 @@ second_passes Batch rows pending (b ∷ bs) second plain passes = absurd (omega 
 
 -- what is pending is taken
 
-pending_first : (c : CommandName) (rows : List Row) (w : List ℕ) → has_row (codes "first") rows ≡ false → Passes c rows (Some (codes "first", w ∷ []))
+pending_first : (c : CommandName) (rows : List Row) (w : List ℕ) → has_row (codes "first") rows ≡ false
+    → Passes c rows (Some (codes "first", w ∷ []))
 unfolding clap_on_literals
 pending_first Solve rows w new = simp (new) refl
 pending_first Check rows w new = simp (new) refl
@@ -357,14 +362,16 @@ pending_second Margin rows w second new = simp (new) refl
 pending_second Follow rows w second new = simp (new) refl
 pending_second Batch rows w second new = absurd (omega (arith, second))
 
-pub pending_file : (c : CommandName) (p : ℕ) (rows : List Row) (w : List ℕ) → IsPlace c p → has_row (id_at p) rows ≡ false
+pub pending_file : (c : CommandName) (p : ℕ) (rows : List Row) (w : List ℕ) → IsPlace c p
+    → has_row (id_at p) rows ≡ false
     → Passes c rows (Some (id_at p, w ∷ []))
 pending_file c p rows w (inl place) new =
     subst (λ q. has_row (id_at q) rows ≡ false → Passes c rows (Some (id_at q, w ∷ []))) (sym place) (pending_first c rows w) new
 pending_file c p rows w (inr (place, second)) new =
     subst (λ q. has_row (id_at q) rows ≡ false → Passes c rows (Some (id_at q, w ∷ []))) (sym place) (pending_second c rows w second) new
 
-pub pending_option : (c : CommandName) (m : Name) (rows : List Row) (v : List ℕ) → Takes c m → has_row (name_of m) rows ≡ false
+pub pending_option : (c : CommandName) (m : Name) (rows : List Row) (v : List ℕ) → Takes c m
+    → has_row (name_of m) rows ≡ false
     → Passes c rows (Some (name_of m, v ∷ []))
 unfolding clap_on_literals
 pending_option Solve Budget rows v takes new = simp (new) refl
@@ -394,11 +401,13 @@ pending_option Batch Upto rows v takes new = absurd takes
 abbrev pub said : List ℕ → List ℕ → Row
 said id v = record { id = id; values = v ∷ []; count = None; source = Some CommandLine; reading = reading_by (option_row Budget) }
 
-new_row : (id : List ℕ) (change : Row → List Row) (missing rows : List Row) → has_row id rows ≡ false → at_row id change missing rows ≡ rows ++ missing
+new_row : (id : List ℕ) (change : Row → List Row) (missing rows : List Row) → has_row id rows ≡ false
+    → at_row id change missing rows ≡ rows ++ missing
 new_row id change missing [] new = refl
 new_row id change missing (r ∷ rows) new = go (bytes_eq r.id id) new (new_row id change missing rows)
   where
-    go : (b : Bool) → (b || has_row id rows) ≡ false → (has_row id rows ≡ false → at_row id change missing rows ≡ rows ++ missing)
+    go : (b : Bool) → (b || has_row id rows) ≡ false
+        → (has_row id rows ≡ false → at_row id change missing rows ≡ rows ++ missing)
         → (if b then change r ++ rows else r ∷ at_row id change missing rows) ≡ r ∷ (rows ++ missing)
     go true new next = absurd cc
     go false new next = ap (λ x. r ∷ x) (next new)
@@ -410,13 +419,15 @@ with_new id v rows how new =
     let kept : without id rows ≡ rows = new_row id (λ _. []) [] rows new ∙ append-nil rows in
     ap (with_values id how CommandLine (v ∷ [])) kept ∙ new_row id (more_values CommandLine (v ∷ [])) _ rows new
 
-pub used_option : (m : Name) (v : List ℕ) (rows : List Row) → has_row (name_of m) rows ≡ false → used (option_row m) (v ∷ []) rows ≡ rows ++ said (name_of m) v ∷ []
+pub used_option : (m : Name) (v : List ℕ) (rows : List Row) → has_row (name_of m) rows ≡ false
+    → used (option_row m) (v ∷ []) rows ≡ rows ++ said (name_of m) v ∷ []
 used_option Budget v rows new = with_new (codes "budget") v rows _ new
 used_option Workers v rows new = with_new (codes "workers") v rows _ new
 used_option Carriers v rows new = with_new (codes "carriers") v rows _ new
 used_option Upto v rows new = with_new (codes "upto") v rows _ new
 
-pub rows_option : (c : CommandName) (m : Name) (v : List ℕ) (rows : List Row) → Takes c m → has_row (name_of m) rows ≡ false
+pub rows_option : (c : CommandName) (m : Name) (v : List ℕ) (rows : List Row) → Takes c m
+    → has_row (name_of m) rows ≡ false
     → rows_at c rows (Some (name_of m, v ∷ [])) ≡ rows ++ said (name_of m) v ∷ []
 rows_option Solve Budget v rows takes new = used_option Budget v rows new
 rows_option Solve Workers v rows takes new = used_option Workers v rows new
@@ -473,7 +484,8 @@ rows_file c p w rows (inr (place, second)) new =
     subst (λ q. has_row (id_at q) rows ≡ false → rows_at c rows (Some (id_at q, w ∷ [])) ≡ rows ++ said (id_at q) w ∷ []) (sym place)
     (rows_second c w rows second) new
 
-pub reads_file : (c : CommandName) (p : ℕ) (rows : List Row) (pending : Pending) (w : List ℕ) → IsPlace c p → IsFileName w
+pub reads_file : (c : CommandName) (p : ℕ) (rows : List Row) (pending : Pending) (w : List ℕ) → IsPlace c p
+    → IsFileName w
     → walked (rules c) [] (at rows pending p idle) w ≡ at (rows_at c rows pending) (Some (id_at p, w ∷ [])) (suc p) idle
 reads_file c p rows pending w (inl place) plain =
     subst (λ q. walked (rules c) [] (at rows pending q idle) w ≡ at (rows_at c rows pending) (Some (id_at q, w ∷ [])) (suc q) idle) (sym place)
@@ -482,7 +494,8 @@ reads_file c p rows pending w (inr (place, second)) plain =
     subst (λ q. walked (rules c) [] (at rows pending q idle) w ≡ at (rows_at c rows pending) (Some (id_at q, w ∷ [])) (suc q) idle) (sym place)
     (reads_second c rows pending w second plain)
 
-pub file_passes : (c : CommandName) (p : ℕ) (rows : List Row) (pending : Pending) (w : List ℕ) → IsPlace c p → IsFileName w → Passes c rows pending
+pub file_passes : (c : CommandName) (p : ℕ) (rows : List Row) (pending : Pending) (w : List ℕ) → IsPlace c p
+    → IsFileName w → Passes c rows pending
     → turn_passes (shape c) [] (at rows pending p idle) w ≡ true
 file_passes c p rows pending w (inl place) plain passes =
     subst (λ q. turn_passes (shape c) [] (at rows pending q idle) w ≡ true) (sym place) (first_passes c rows pending w plain passes)

@@ -26,8 +26,8 @@ pub data Item : Type 0 where
   File : List ℕ → Item
   Given : List ℕ → List ℕ → Item
 
--- the words say these items, one after another: a file by its name; an option as one word, with two dashes before its name
--- and = before its value, or as two words
+-- the words say these items, one after another: a file by its name; an option as one word, with two dashes before its
+-- name and = before its value, or as two words
 abbrev pub Says : List Item → List (List ℕ) → Type 0
 Says [] words = words ≡ []
 Says (File name ∷ items) [] = ⊥
@@ -53,8 +53,8 @@ values_of is_it [] = []
 values_of is_it (File name ∷ items) = values_of is_it items
 values_of is_it (Given name value ∷ items) = if is_it name then value ∷ values_of is_it items else values_of is_it items
 
--- an option is given at most once, with a number from least to most in its decimal digits; where it isn't given it has its
--- default
+-- an option is given at most once, with a number from least to most in its decimal digits; where it isn't given it has
+-- its default
 abbrev pub IsValue : List (List ℕ) → ℕ → ℕ → ℕ → ℕ → Type 0
 IsValue [] default least most n = n ≡ default
 IsValue (v ∷ []) default least most n = (v ≡ decimal n) × (least ≤ n) × (n ≤ most)
@@ -81,8 +81,8 @@ abbrev pub IsNumber : Option Limits → List (List ℕ) → ℕ → Type 0
 IsNumber None vs n = (vs ≡ []) × (n ≡ 0)
 IsNumber (Some l) vs n = IsValue vs l.default l.least l.most n
 
--- the files among the words that are no options, under the greatest seed that a command takes: all of them, or none where
--- it takes a seed
+-- the files among the words that are no options, under the greatest seed that a command takes: all of them, or none
+-- where it takes a seed
 abbrev pub files_under : Option ℕ → List (List ℕ) → List (List ℕ)
 files_under None placed = placed
 files_under (Some most) placed = []
@@ -92,8 +92,8 @@ abbrev pub IsSeed : Option ℕ → List (List ℕ) → ℕ → Type 0
 IsSeed None placed n = n ≡ 0
 IsSeed (Some most) placed n = (placed ≡ decimal n ∷ []) × (n ≤ most)
 
--- the words ask for this command, with these files and numbers: the words that are no options are as many as its row says,
--- and are files or the seed, and each option keeps the limits of its row
+-- the words ask for this command, with these files and numbers: the words that are no options are as many as its row
+-- says, and are files or the seed, and each option keeps the limits of its row
 pub record AsksFor (command : CommandName) (words files : List (List ℕ)) (numbers : Numbers) : Type 0 where
   pub named : slice_get words 1 ≡ Some (name_of_command command)
   pub items : List Item
@@ -135,7 +135,8 @@ AsksChart words file answer = AsksFor command.Chart words (file ∷ answer ∷ [
 abbrev pub AsksDrill : List (List ℕ) → ℕ → Type 0
 AsksDrill words seed = AsksFor command.Drill words [] (record no_numbers { seed = seed })
 
--- the words ask to solve the line of a file with each degree up to this one, with a budget of splits and so many workers
+-- the words ask to solve the line of a file with each degree up to this one, with a budget of splits and so many
+-- workers
 abbrev pub AsksSweep : List (List ℕ) → List ℕ → ℕ → ℕ → ℕ → Type 0
 AsksSweep words file upto budget workers =
     AsksFor command.Sweep words (file ∷ []) (record no_numbers { budget = budget; workers = workers; upto = upto })

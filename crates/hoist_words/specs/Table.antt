@@ -16,7 +16,8 @@ name_of_command Margin = codes "margin"
 name_of_command Follow = codes "follow"
 name_of_command Batch = codes "batch"
 
--- splits of the search, and of that of each line of a list, threads that search, carriers of a run, and degrees of a sweep
+-- splits of the search, and of that of each line of a list, threads that search, carriers of a run, and degrees of a
+-- sweep
 abbrev pub splits : Limits
 splits = record { least = 0; most = 20000; default = 20000 }
 

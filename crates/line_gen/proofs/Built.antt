@@ -15,7 +15,8 @@ itself : (n : ℕ) → (n == n) ≡ true
 itself n = grind (arith, nat_tests)
 
 pub one_more : {X : Type 0} (f : ℕ → X) (first count place : ℕ) (xs new : List X) (x : X) → first + count ≡ place
-    → xs ≡ map f (range_with_len first count) → new ≡ xs ++ x ∷ [] → x ≡ f place → new ≡ map f (range_with_len first (count + 1))
+    → xs ≡ map f (range_with_len first count) → new ≡ xs ++ x ∷ [] → x ≡ f place
+    → new ≡ map f (range_with_len first (count + 1))
 one_more f first count place xs new x here before after item =
     after ∙ ap (λ ys. ys ++ x ∷ []) before ∙ ap (λ y. map f (range_with_len first count) ++ y ∷ []) item
     ∙ sym (map-range_with_len_more f first count place here)
@@ -27,7 +28,8 @@ tanks_more baths i xs new name before after is =
     let at_i = λ (n : List ℕ). let here : Tank = record { name = n; at = 2 * i } in here in
     one_more (tank_of baths) 0 i i xs new (at_i name) (omega arith) before after (ap at_i is)
 
-pub stages_more : (c : ChoiceData) (i : ℕ) (xs new : List Stage) (x : Stage) → xs ≡ map (stage_of c) (range_with_len 0 i)
+pub stages_more : (c : ChoiceData) (i : ℕ) (xs new : List Stage) (x : Stage)
+    → xs ≡ map (stage_of c) (range_with_len 0 i)
     → new ≡ xs ++ x ∷ [] → x ≡ stage_of c i → new ≡ map (stage_of c) (range_with_len 0 (i + 1))
 stages_more c i xs new x before after is = one_more (stage_of c) 0 i i xs new x (omega arith) before after is
 
@@ -36,7 +38,8 @@ unload_is : (c : ChoiceData)
     → record { tanks = (c.baths + 1) ∷ []; min = 0; max = None; lift = 0; lower = 2 } ≡ stage_of c (c.baths + 1)
 unload_is c = rw (own_tank c.baths c.again, bath_last c.baths, itself (c.baths + 1), not_first c.baths) refl
 
-pub stages_all : (c : ChoiceData) (i : ℕ) (xs new : List Stage) → xs ≡ map (stage_of c) (range_with_len 0 i) → i ≡ c.baths + 1
+pub stages_all : (c : ChoiceData) (i : ℕ) (xs new : List Stage) → xs ≡ map (stage_of c) (range_with_len 0 i)
+    → i ≡ c.baths + 1
     → new ≡ xs ++ record { tanks = (c.baths + 1) ∷ []; min = 0; max = None; lift = 0; lower = 2 } ∷ []
     → new ≡ map (stage_of c) (range_with_len 0 (c.baths + 2))
 stages_all c i xs new before last after =

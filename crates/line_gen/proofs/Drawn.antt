@@ -11,7 +11,8 @@ pub first_number : (seed x : ℕ) → x ≡ 1 + seed % 2147483646 → x ≡ numb
 unfolding number_after
 first_number seed x e = e
 
-pub next_number : (seed draws old new : ℕ) → old ≡ number_after seed draws → new ≡ 48271 * old % 2147483647 → new ≡ number_after seed (draws + 1)
+pub next_number : (seed draws old new : ℕ) → old ≡ number_after seed draws → new ≡ 48271 * old % 2147483647
+    → new ≡ number_after seed (draws + 1)
 unfolding number_after
 next_number seed draws old new before after =
     let one : suc draws ≡ draws + 1 = omega arith in
@@ -22,7 +23,12 @@ draws_small seed first count i =
     let drawn = map (λ j. draw seed j 80) (range_with_len first count) in
     let some : length drawn ≡ count = length-map-range_with_len (λ j. draw seed j 80) first count in
     ⊎_elim
-    (λ inside. omega (arith, get_or-map-range_with_len (λ j. draw seed j 80) first count i (first + i) 0 inside (omega arith), mod_below (number_after seed (first + i)) 80 (omega arith)))
+    (λ inside. omega (
+      arith,
+      get_or-map-range_with_len (λ j. draw seed j 80) first count i (first + i) 0 inside
+          (omega arith),
+      mod_below (number_after seed (first + i)) 80 (omega arith),
+    ))
     (λ past. omega (arith, get_or_past drawn i 0 (omega (arith, past, some))))
     (cases_lt i count)
 

@@ -82,13 +82,18 @@ byte_last baths = ap first_byte (name_last baths)
 byte_rest : (baths i : ℕ) → 0 < i → i < baths + 2 → first_byte (tank_name baths i) ≢ 108
 byte_rest baths i some lt e =
     ⊎_elim (λ none. omega (arith, none, some))
-    (λ rest. ⊎_elim (λ inside. omega (arith, e, byte_inside baths i inside.0 inside.1)) (λ last. omega (arith, e, ap (λ k. first_byte (tank_name baths k)) last, byte_last baths)) rest)
+    (λ rest. ⊎_elim (λ inside. omega (arith, e, byte_inside baths i inside.0 inside.1))
+    (λ last. omega (arith, e, ap (λ k. first_byte (tank_name baths k)) last, byte_last baths)) rest)
     (place_of baths i lt)
 
 -- two numbered names differ
 numbers_differ : (baths i j : ℕ) → baths ≤ 12 → 0 < i → i < j → j < baths + 1 → tank_name baths i ≢ tank_name baths j
 numbers_differ baths i j few some less lt e =
-    let same : codes "t" ++ decimal i ≡ codes "t" ++ decimal j = sym (name_inside baths i some (omega (arith, less, lt))) ∙ e ∙ name_inside baths j (omega (arith, some, less)) lt in
+    let same : codes "t" ++ decimal i ≡ codes "t" ++ decimal j = sym (name_inside baths i some (omega (
+      arith,
+      less,
+      lt,
+    ))) ∙ e ∙ name_inside baths j (omega (arith, some, less)) lt in
     omega (arith, less, decimal_injective i j (omega (arith, few, less, lt)) (omega (arith, few, lt)) (ap (λ (xs : List ℕ). drop 1 xs) same))
 
 pub names_differ : (baths i j : ℕ) → baths ≤ 12 → i < j → j < baths + 2 → tank_name baths i ≢ tank_name baths j
@@ -102,7 +107,8 @@ names_differ baths i j few less lt e =
     (first_or_later i)
 
 -- the last bath may use the first tank again, but neighbours never share one
-pub tanks_apart : (baths k : ℕ) (again : Bool) → 8 ≤ baths → k < baths + 1 → tank_at baths again k ≢ tank_at baths again (k + 1)
+pub tanks_apart : (baths k : ℕ) (again : Bool) → 8 ≤ baths → k < baths + 1
+    → tank_at baths again k ≢ tank_at baths again (k + 1)
 tanks_apart baths k again many lt e = grind (arith, nat_tests)
 
 pub tank_there : (baths k : ℕ) (again : Bool) → 8 ≤ baths → k < baths + 2 → tank_at baths again k < baths + 2

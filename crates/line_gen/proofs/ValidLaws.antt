@@ -52,7 +52,8 @@ has_tanks c h = record {
 }
 
 -- the tanks of a stage
-tanks_is : (c : ChoiceData) (k : ℕ) → IsStageOf (line_with c) k → (stage (line_with c) k).tanks ≡ tank_at c.baths c.again k ∷ []
+tanks_is : (c : ChoiceData) (k : ℕ) → IsStageOf (line_with c) k
+    → (stage (line_with c) k).tanks ≡ tank_at c.baths c.again k ∷ []
 tanks_is c k lt = ap (λ (s : Stage). s.tanks) (stage_is c k lt)
 
 one_tank : (c : ChoiceData) (k : ℕ) → IsStageOf (line_with c) k → length (stage (line_with c) k).tanks ≡ 1
@@ -62,7 +63,8 @@ among : (xs ys : List ℕ) (i : ℕ) → xs ≡ ys → Contains xs i → Contain
 among xs ys i same has = rw (sym same) has
 
 -- a tank that serves a stage is that tank
-serves_is : (c : ChoiceData) (i k : ℕ) → IsStageOf (line_with c) k → Serves (line_with c) i k → tank_at c.baths c.again k ≡ i
+serves_is : (c : ChoiceData) (i k : ℕ) → IsStageOf (line_with c) k → Serves (line_with c) i k
+    → tank_at c.baths c.again k ≡ i
 serves_is c i k lt serves =
     contains_only (tank_at c.baths c.again k) i (among (stage (line_with c) k).tanks (tank_at c.baths c.again k ∷ []) i (tanks_is c k lt) serves)
 
@@ -93,7 +95,8 @@ has_stages c h = record {
 }
 
 -- what a stage has, read off the stage of its number
-has : (c : ChoiceData) {X : Type 0} (part : Stage → X) (k : ℕ) → IsStageOf (line_with c) k → part (stage (line_with c) k) ≡ part (stage_of c k)
+has : (c : ChoiceData) {X : Type 0} (part : Stage → X) (k : ℕ) → IsStageOf (line_with c) k
+    → part (stage (line_with c) k) ≡ part (stage_of c k)
 has c part k lt = ap part (stage_is c k lt)
 
 end_first : (c : ChoiceData) → IsEnd (stage_of c 0)

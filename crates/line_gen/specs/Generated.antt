@@ -14,8 +14,8 @@ number_after seed (suc draws) = 48271 * number_after seed draws % 2147483647
 abbrev pub draw : ℕ → ℕ → ℕ → ℕ
 draw seed count limit = number_after seed count % limit
 
--- what is drawn for a line: how many baths and hoists it has, whether the last bath stands in the tank of the first, and
--- a number z below 80 for each bath, which gives its window
+-- what is drawn for a line: how many baths and hoists it has, whether the last bath stands in the tank of the first,
+-- and a number z below 80 for each bath, which gives its window
 pub record ChoiceData : Type 0 where
   pub baths : ℕ
   pub hoists : ℕ

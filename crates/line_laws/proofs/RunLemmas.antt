@@ -23,11 +23,13 @@ moved_bound : (o : Option ℕ) (a b d z : ℕ) → IfSome o (λ m. a ≤ b + d +
 moved_bound None a b d z h = tt
 moved_bound (Some m) a b d z h = omega (arith, h)
 
-carries : (l : LineData) (p : Timetable) (h c k t : ℕ) → copied l c < l.degree → RunCarriesAt l p h c k t → CarriesAt l p h (copied l c) k (c / l.degree) t
+carries : (l : LineData) (p : Timetable) (h c k t : ℕ) → copied l c < l.degree → RunCarriesAt l p h c k t
+    → CarriesAt l p h (copied l c) k (c / l.degree) t
 carries l p h c k t there a =
     record { move = (there, a.step); hoist = a.hoist; from = a.from; before = omega (arith, a.before) }
 
-holds : (l : LineData) (p : Timetable) (i c k t : ℕ) → copied l c < l.degree → RunHoldsAt l p i c k t → HoldsAt l p i (copied l c) k (c / l.degree) t
+holds : (l : LineData) (p : Timetable) (i c k t : ℕ) → copied l c < l.degree → RunHoldsAt l p i c k t
+    → HoldsAt l p i (copied l c) k (c / l.degree) t
 holds l p i c k t there a =
     record { visit = (there, a.stage); tank = a.tank; from = a.from; before = a.before }
 

@@ -24,7 +24,8 @@ record Natural (p : Timetable) (b e n : ℕ) (z t : ℤ) : Type 0 where
   from : b + turns * p.period ≤ tick
   before : tick < e + turns * p.period
 
-natural : (p : Timetable) (b e n : ℕ) (z t : ℤ) → unsigned_abs z ≤ n → moved p z b ≤ℤ t → t <ℤ moved p z e → Natural p b e n z t
+natural : (p : Timetable) (b e n : ℕ) (z t : ℤ) → unsigned_abs z ≤ n → moved p z b ≤ℤ t → t <ℤ moved p z e
+    → Natural p b e n z t
 natural p b e n z t enough from before =
     let m : ℕ = unsigned_abs (z +ℤ pos n) in
     let q : z +ℤ pos n ≡ pos m = omega (arith, ints, enough) in
@@ -41,7 +42,8 @@ same_turns z z' n m m' e f g = omega (arith, ints, e, f, g)
 
 -- the tick that both hold is one
 carries : (l : LineData) (p : Timetable) (h c k n t : ℕ) (z x : ℤ) → CarriesAtWhole l p h c k z x
-    → (a : Natural p (p.start c k) (p.start c k + duration (motion l p c k)) n z x) → a.tick ≡ t → CarriesAt l p h c k a.turns t
+    → (a : Natural p (p.start c k) (p.start c k + duration (motion l p c k)) n z x) → a.tick ≡ t
+    → CarriesAt l p h c k a.turns t
 carries l p h c k n t z x w a e = record { move = w.move; hoist = w.hoist; from = omega (arith, a.from, e); before = omega (arith, a.before, e) }
 
 holds : (l : LineData) (p : Timetable) (i c k n t : ℕ) (z x : ℤ) → HoldsAtWhole l p i c k z x
@@ -76,15 +78,30 @@ out_whole p e z t lt = omega (arith, ints, lt)
 carried_natural : (l : LineData) (p : Timetable) → CarriedAloneWhole l p → CarriedAlone l p
 carried_natural l p alone h t c k z c' k' z' a b =
     let r = alone h c k c' k' (pos z) (pos z') (pos t)
-    (record { move = a.move; hoist = a.hoist; from = in_whole p (p.start c k) z t a.from; before = out_whole p (p.start c k + duration (motion l p c k)) z t a.before })
-    (record { move = b.move; hoist = b.hoist; from = in_whole p (p.start c' k') z' t b.from; before = out_whole p (p.start c' k' + duration (motion l p c' k')) z' t b.before }) in
+    (record {
+      move = a.move;
+      hoist = a.hoist;
+      from = in_whole p (p.start c k) z t a.from;
+      before = out_whole p (p.start c k + duration (motion l p c k)) z t a.before;
+    })
+    (record {
+      move = b.move;
+      hoist = b.hoist;
+      from = in_whole p (p.start c' k') z' t b.from;
+      before = out_whole p (p.start c' k' + duration (motion l p c' k')) z' t b.before;
+    }) in
     (r.0, r.1, omega (arith, ints, r.2))
 
 held_natural : (l : LineData) (p : Timetable) → HeldAloneWhole l p → AreHeldAlone l p
 held_natural l p alone i t c k z c' k' z' a b =
     let r = alone i c k c' k' (pos z) (pos z') (pos t)
     (record { visit = a.visit; tank = a.tank; from = in_whole p (hold_begin l p c k) z t a.from; before = out_whole p (hold_end l p c k) z t a.before })
-    (record { visit = b.visit; tank = b.tank; from = in_whole p (hold_begin l p c' k') z' t b.from; before = out_whole p (hold_end l p c' k') z' t b.before }) in
+    (record {
+      visit = b.visit;
+      tank = b.tank;
+      from = in_whole p (hold_begin l p c' k') z' t b.from;
+      before = out_whole p (hold_end l p c' k') z' t b.before;
+    }) in
     (r.0, r.1, omega (arith, ints, r.2))
 
 pub same_over_whole_periods : SameOverWholePeriods

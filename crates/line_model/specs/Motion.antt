@@ -1,5 +1,5 @@
--- What a hoist does in one move, and which positions it reaches.
--- The problem in outline is that of Phillips and Unger (1976); several hoists and tanks to choose are this project's own.
+-- What a hoist does in one move, and which positions it reaches. The problem in outline is that of Phillips and Unger
+-- (1976); several hoists and tanks to choose are this project's own.
 use Rattle.std.specs.Prelude.{ℕ, ◌+◌, ◌-◌, ◌*◌, ◌≤◌, min, max}
 use Rattle.std.specs.Int.{abs_diff}
 use Rattle.line_model.specs.declared.motion.Motion.{Motion}

@@ -45,7 +45,8 @@ ready_parts (Some why) a b h = absurd (not_ready why b h)
 file_of : (bytes : List ℕ) (l : LineData) (o : Option Members) → o ≡ document_of bytes
     → option_map_or (λ found. table_read (table found)) o (Refused NotToml) ≡ Ready l → IsLineFile bytes l
 file_of bytes l None e h = absurd (not_ready NotToml l h)
-file_of bytes l (Some found) e h = let parts = ready_parts (why_of (table found)) (line_of (table found)) l h in (found, is_document bytes found (sym e), parts.0, parts.1)
+file_of bytes l (Some found) e h = let parts = ready_parts (why_of (table found))
+    (line_of (table found)) l h in (found, is_document bytes found (sym e), parts.0, parts.1)
 
 pub line_files_are_read : LineFilesAreRead
 unfolding bytes_read

@@ -23,12 +23,14 @@ earlier_first : (a b : List ℕ) → slice_cmp nat_cmp a b ≡ Less → earlier 
 earlier_first a b h = rw h
 
 -- a text stays the first beside later ones
-stays_first : (p : List ℕ → Bool) (k : String Global) (es : List Entry) → AllByRecursion (λ y. string_cmp k y ≡ Less) (entry_keys es)
+stays_first : (p : List ℕ → Bool) (k : String Global) (es : List Entry)
+    → AllByRecursion (λ y. string_cmp k y ≡ Less) (entry_keys es)
     → fold earlier (string_bytes k) (filter p (member_keys (members_view es))) ≡ string_bytes k
 stays_first p k [] h = refl
 stays_first p k (e ∷ es) h =
     elim (cases_Bool (p (string_bytes e.0))) [
-      | inl passes ↦ rw passes (ap (λ x. fold earlier x (filter p (member_keys (members_view es)))) (earlier_first (string_bytes k) (string_bytes e.0) h.0) ∙ stays_first p k es h.1)
+      | inl passes ↦ rw passes (ap (λ x. fold earlier x (filter p (member_keys (members_view es))))
+          (earlier_first (string_bytes k) (string_bytes e.0) h.0) ∙ stays_first p k es h.1)
       | inr fails ↦ rw fails (stays_first p k es h.1)
     ]
 
@@ -44,7 +46,9 @@ first_in_order p (e ∷ es) h =
     ]
 
 -- the same of the table that a value is
-pub unlisted_is : (p : List ℕ → Bool) (k : Option (String Global)) (m : BTreeMap (String Global) Value) (d : Data) → IsOrdered string_cmp m
-    → Some (table_view m) ≡ as_table d → k ≡ find (λ x. p (string_bytes x)) (keys m) → option_map string_bytes k ≡ first_text (filter p (keys_of d))
+pub unlisted_is : (p : List ℕ → Bool) (k : Option (String Global)) (m : BTreeMap (String Global) Value) (d : Data)
+    → IsOrdered string_cmp m
+    → Some (table_view m) ≡ as_table d → k ≡ find (λ x. p (string_bytes x)) (keys m)
+    → option_map string_bytes k ≡ first_text (filter p (keys_of d))
 unlisted_is p k m d ordered same found =
     rw (found, ← same) (first_in_order p m.entries ordered)

@@ -19,12 +19,14 @@ use Rattle.line_text.specs.File.{tank_of, number_of}
 use Rattle.line_text.specs.Names.{IsNumbering}
 
 push_cases : (n len : ℕ) (b : Bool) → n ≤ len
-    → cond (nat_lt (cond (n == len) (len + cond b 0 1) n) (len + 1)) (Some (cond (n == len) (len + cond b 0 1) n)) None ≡ option_or (cond (nat_lt n len) (Some n) None) (given b len)
+    → cond (nat_lt (cond (n == len) (len + cond b 0 1) n) (len + 1)) (Some (cond (n == len) (len + cond b 0 1) n)) None
+    ≡ option_or (cond (nat_lt n len) (Some n) None) (given b len)
 push_cases n len true h = grind (arith, nat_tests)
 push_cases n len false h = grind (arith, nat_tests)
 
 -- what was there before, or else the last
-pub position_push : {X : Type 0} (p : X → Bool) (xs : List X) (y : X) → position p (xs ++ y ∷ []) ≡ option_or (position p xs) (given (p y) (length xs))
+pub position_push : {X : Type 0} (p : X → Bool) (xs : List X) (y : X)
+    → position p (xs ++ y ∷ []) ≡ option_or (position p xs) (given (p y) (length xs))
 position_push p xs y =
     rw (position_or_len_push p xs y, length_push xs y) (push_cases (position_or_len p xs) (length xs) (p y) (prefix_len-le-length (λ x. not (p x)) xs))
 
@@ -43,16 +45,19 @@ numbering_more q xs i d h =
 
 -- one more item
 pub texts_more : (f : List ℕ → ℕ) (xs : List Value) (i : ℕ) (d : Value) → i < length xs
-    → map f (filter_map as_str (map view (take (i + 1) xs))) ≡ map f (filter_map as_str (map view (take i xs))) ++ map f (cons_option (as_str (view (get_or xs i d))) [])
+    → map f (filter_map as_str (map view (take (i + 1) xs))) ≡ map f (filter_map as_str (map view (take i xs)))
+    ++ map f (cons_option (as_str (view (get_or xs i d))) [])
 texts_more f xs i d h = rw (take_more xs i d h, map-append view, filter_map-append as_str, map-append f)
 
 -- the number that the map gives a name
-number_same : (q : List ℕ) (tanks : List Tank) (o : Option ℕ) → o ≡ position (λ (t : Tank). bytes_eq q t.name) tanks → unwrap_or o (length tanks) ≡ number_of tanks q
+number_same : (q : List ℕ) (tanks : List Tank) (o : Option ℕ) → o ≡ position (λ (t : Tank). bytes_eq q t.name) tanks
+    → unwrap_or o (length tanks) ≡ number_of tanks q
 number_same q tanks o h =
     let bound = prefix_len-le-length (λ (t : Tank). not (bytes_eq q t.name)) tanks in
     rw h (grind (arith, nat_tests))
 
-pub numbers_same : {Y S : Type 0} (numbers : HashMap (String Y) ℕ S) (tanks : List Tank) (count : ℕ) (names : List (List ℕ)) → IsNumbering numbers tanks → count ≡ length tanks
+pub numbers_same : {Y S : Type 0} (numbers : HashMap (String Y) ℕ S) (tanks : List Tank) (count : ℕ) (names : List (List ℕ))
+    → IsNumbering numbers tanks → count ≡ length tanks
     → map (λ name. unwrap_or (get_by_text numbers name) count) names ≡ map (number_of tanks) names
 numbers_same numbers tanks count [] h e = refl
 numbers_same numbers tanks count (q ∷ names) h e =

@@ -49,15 +49,18 @@ limits root h =
 -- ---- tanks
 
 -- a tank of the line is that of its table
-tank_is : (root : Data) (i : ℕ) → i < length (tank_tables root) → tank (line_of root) i ≡ tank_of (get_or (tank_tables root) i no_value)
+tank_is : (root : Data) (i : ℕ) → i < length (tank_tables root)
+    → tank (line_of root) i ≡ tank_of (get_or (tank_tables root) i no_value)
 tank_is root i h = get_or-map tank_of (tank_tables root) i no_value no_tank h
 
-position_within : (root : Data) (i : ℕ) → number_at root fields.Track ≤ max_track → tanks_why root ≡ None → i < length (tank_tables root)
+position_within : (root : Data) (i : ℕ) → number_at root fields.Track ≤ max_track → tanks_why root ≡ None
+    → i < length (tank_tables root)
     → number_at (get_or (tank_tables root) i no_value) fields.At ≤ number_at root fields.Track
 position_within root i small h there =
     let track = number_at root fields.Track in
     let t = get_or (tank_tables root) i no_value in
-    let m = (table_meets (places.Tank i) (tank_rules track) t (none_at (tank_why track (tank_tables root)) 0 (length (tank_tables root)) i h (omega arith) there)).0 in
+    let m = (table_meets (places.Tank i) (tank_rules track) t
+    (none_at (tank_why track (tank_tables root)) 0 (length (tank_tables root)) i h (omega arith) there)).0 in
     (number_meets t fields.At 0 track (omega arith) m.1.0).1
 
 -- ---- what the table of a stage gives
@@ -68,7 +71,8 @@ no_number t f h = rw h
 no_number_if : (t : Data) (f : Field) → value_at t f ≡ None → number_if t f ≡ None
 no_number_if t f h = rw h
 
-one_name : (tanks : List Tank) (t : Data) (s : List ℕ) → text_if t fields.Tank ≡ Some s → length (stage_of tanks t).tanks ≡ 1
+one_name : (tanks : List Tank) (t : Data) (s : List ℕ) → text_if t fields.Tank ≡ Some s
+    → length (stage_of tanks t).tanks ≡ 1
 one_name tanks t s h = rw h
 
 first_facts : (tanks : List Tank) (place : Place) (t : Data) → table_why place first_stage_rules t ≡ None
@@ -107,7 +111,8 @@ record IsInner (s : Stage) : Type 0 where
   lift : (1 ≤ s.lift) × (s.lift ≤ max_lift)
   lower : (1 ≤ s.lower) × (s.lower ≤ max_lower)
 
-inner_facts : (tanks : List Tank) (place : Place) (t : Data) (single : Bool) → table_why place (if single then single_stage_rules else inner_stage_rules) t ≡ None
+inner_facts : (tanks : List Tank) (place : Place) (t : Data) (single : Bool)
+    → table_why place (if single then single_stage_rules else inner_stage_rules) t ≡ None
     → IsInner (stage_of tanks t)
 inner_facts tanks place t true h =
     let (m, unknown) = table_meets place single_stage_rules t h in
@@ -150,21 +155,26 @@ why_at root k h there = none_at (stage_why (number_at root fields.Version) (stag
 rules_last : (version count k : ℕ) → k ≢ 0 → k + 1 ≡ count → stage_rules version count k ≡ last_stage_rules
 rules_last version count k later last = rw (unequal k 0 later, eq-eqb (k + 1) count last)
 
-rules_inner : (version count k : ℕ) → k ≢ 0 → k + 1 ≢ count → stage_rules version count k ≡ (if version == 1 then single_stage_rules else inner_stage_rules)
+rules_inner : (version count k : ℕ) → k ≢ 0 → k + 1 ≢ count
+    → stage_rules version count k ≡ (if version == 1 then single_stage_rules else inner_stage_rules)
 rules_inner version count k later inner = rw (unequal k 0 later, unequal (k + 1) count inner)
 
 module _ (root : Data) (h : stages_why root ≡ None) where
   first_at : 0 < length (stage_tables root)
-      → IsEnd (stage (line_of root) 0) × ((stage (line_of root) 0).lower ≡ 0) × ((1 ≤ (stage (line_of root) 0).lift) × ((stage (line_of root) 0).lift ≤ max_lift))
-  first_at there = rw (stage_is root 0 there) (first_facts (map tank_of (tank_tables root)) (places.Stage 0) (get_or (stage_tables root) 0 no_value) (why_at root 0 h there))
+      → IsEnd (stage (line_of root) 0) × ((stage (line_of root) 0).lower ≡ 0)
+      × ((1 ≤ (stage (line_of root) 0).lift) × ((stage (line_of root) 0).lift ≤ max_lift))
+  first_at there = rw (stage_is root 0 there) (first_facts (map tank_of (tank_tables root)) (places.Stage 0)
+      (get_or (stage_tables root) 0 no_value) (why_at root 0 h there))
 
   last_at : (k : ℕ) → k ≢ 0 → k + 1 ≡ length (stage_tables root)
-      → IsEnd (stage (line_of root) k) × ((stage (line_of root) k).lift ≡ 0) × ((1 ≤ (stage (line_of root) k).lower) × ((stage (line_of root) k).lower ≤ max_lower))
+      → IsEnd (stage (line_of root) k) × ((stage (line_of root) k).lift ≡ 0)
+      × ((1 ≤ (stage (line_of root) k).lower) × ((stage (line_of root) k).lower ≤ max_lower))
   last_at k later last =
       let there : k < length (stage_tables root) = omega arith in
       let t = get_or (stage_tables root) k no_value in
       let same = rules_last (number_at root fields.Version) (length (stage_tables root)) k later last in
-      rw (stage_is root k there) (last_facts (map tank_of (tank_tables root)) (places.Stage k) t (sym (ap (λ rules. table_why (places.Stage k) rules t) same) ∙ why_at root k h there))
+      rw (stage_is root k there) (last_facts (map tank_of (tank_tables root)) (places.Stage k) t
+      (sym (ap (λ rules. table_why (places.Stage k) rules t) same) ∙ why_at root k h there))
 
   inner_at : (k : ℕ) → k ≢ 0 → k + 1 < length (stage_tables root) → IsInner (stage (line_of root) k)
   inner_at k later inner =
@@ -172,12 +182,14 @@ module _ (root : Data) (h : stages_why root ≡ None) where
       let t = get_or (stage_tables root) k no_value in
       let version = number_at root fields.Version in
       let same = rules_inner version (length (stage_tables root)) k later (omega arith) in
-      rw (stage_is root k there) (inner_facts (map tank_of (tank_tables root)) (places.Stage k) t (version == 1) (sym (ap (λ rules. table_why (places.Stage k) rules t) same) ∙ why_at root k h there))
+      rw (stage_is root k there) (inner_facts (map tank_of (tank_tables root)) (places.Stage k) t (version == 1)
+      (sym (ap (λ rules. table_why (places.Stage k) rules t) same) ∙ why_at root k h there))
 
 one_to_four : (s : Stage) → IsEnd s → (1 ≤ length s.tanks) × (length s.tanks ≤ max_tanks_of_stage)
 one_to_four s h = let one = h.one_tank in (omega arith, omega arith)
 
-tank_counts : (root : Data) → stages_why root ≡ None → 2 ≤ length (stage_tables root) → (k : ℕ) → k < length (stage_tables root)
+tank_counts : (root : Data) → stages_why root ≡ None → 2 ≤ length (stage_tables root) → (k : ℕ)
+    → k < length (stage_tables root)
     → (1 ≤ length (stage (line_of root) k).tanks) × (length (stage (line_of root) k).tanks ≤ max_tanks_of_stage)
 tank_counts root h two k there =
     elim (below_or_not 0 k) [
@@ -189,7 +201,8 @@ tank_counts root h two k there =
       | inr first ↦ let same : k ≡ 0 = omega arith in rw same (one_to_four (stage (line_of root) 0) (first_at root h (omega arith)).0)
     ]
 
-ranges_at : (root : Data) → stages_why root ≡ None → 2 ≤ length (stage_tables root) → (k : ℕ) → k < length (stage_tables root)
+ranges_at : (root : Data) → stages_why root ≡ None → 2 ≤ length (stage_tables root) → (k : ℕ)
+    → k < length (stage_tables root)
     → HasRangesAt (line_of root) k
 ranges_at root h two k there =
     let l = line_of root in
@@ -225,11 +238,21 @@ pub root_of : (root : Data) → tables_why root ≡ None → root_why root ≡ N
 root_of root h = or_left (root_why root) (option_or (tanks_why root) (stages_why root)) h
 
 -- there are few tables of tanks and of stages
-pub few_tanks : (root : Data) (vs : List Value) → root_why root ≡ None → map view vs ≡ tank_tables root → length vs ≤ max_tanks
-few_tanks root vs h same = let few = (limits root h).tanks.1 in omega (arith, simp length-map at few, simp length-map at (ap (λ (xs : List Data). length xs) same))
+pub few_tanks : (root : Data) (vs : List Value) → root_why root ≡ None → map view vs ≡ tank_tables root
+    → length vs ≤ max_tanks
+few_tanks root vs h same = let few = (limits root h).tanks.1 in omega (
+  arith,
+  simp length-map at few,
+  simp length-map at (ap (λ (xs : List Data). length xs) same),
+)
 
-pub few_stages : (root : Data) (vs : List Value) → root_why root ≡ None → map view vs ≡ stage_tables root → length vs ≤ max_stages
-few_stages root vs h same = let few = (limits root h).stages.1 in omega (arith, simp length-map at few, simp length-map at (ap (λ (xs : List Data). length xs) same))
+pub few_stages : (root : Data) (vs : List Value) → root_why root ≡ None → map view vs ≡ stage_tables root
+    → length vs ≤ max_stages
+few_stages root vs h same = let few = (limits root h).stages.1 in omega (
+  arith,
+  simp length-map at few,
+  simp length-map at (ap (λ (xs : List Data). length xs) same),
+)
 
 pub few_tables : (root : Data) → tables_why root ≡ None → length (tank_tables root) ≤ max_tanks
 few_tables root h = let few = (limits root (root_of root h)).tanks.1 in simp length-map at few
@@ -266,5 +289,6 @@ pub valid : (root : Data) (l : LineData) → tables_why root ≡ None → l ≡ 
 valid root l h same g = rw same (valid_table root h (rw same at g))
 
 -- the value at a place, as the table of tanks or stages there
-pub view_at : (vs : List Value) (i : ℕ) (v : Value) → i < length vs → v ≡ get_or vs i v → view v ≡ get_or (map view vs) i no_value
+pub view_at : (vs : List Value) (i : ℕ) (v : Value) → i < length vs → v ≡ get_or vs i v
+    → view v ≡ get_or (map view vs) i no_value
 view_at vs i v h same = ap view same ∙ sym (get_or-map view vs i v no_value h)

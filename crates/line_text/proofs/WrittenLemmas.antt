@@ -19,15 +19,18 @@ use Rattle.line_text.specs.Written.{Pair, one_number, root_pairs, line_file_text
 -- ---- parts behind one another
 
 -- a line with a key and its number, then the lines of others
-pub then_number : (field : Field) (n m : ℕ) (rest : List Pair) (old mid new : List ℕ) → n ≡ m → mid ≡ old ++ pair_text (field, one_number n)
+pub then_number : (field : Field) (n m : ℕ) (rest : List Pair) (old mid new : List ℕ) → n ≡ m
+    → mid ≡ old ++ pair_text (field, one_number n)
     → new ≡ mid ++ flat_map pair_text rest → new ≡ old ++ flat_map pair_text ((field, one_number m) ∷ rest)
 then_number field n m rest old mid new same here more =
     more ∙ ap (λ (x : List ℕ). x ++ flat_map pair_text rest) (here ∙ ap (λ i. old ++ pair_text (field, one_number i)) same)
     ∙ append_assoc old (pair_text (field, one_number m)) (flat_map pair_text rest)
 
-then_pair : (p : Pair) (rest : List Pair) (old mid new : List ℕ) → mid ≡ old ++ pair_text p → new ≡ mid ++ flat_map pair_text rest
+then_pair : (p : Pair) (rest : List Pair) (old mid new : List ℕ) → mid ≡ old ++ pair_text p
+    → new ≡ mid ++ flat_map pair_text rest
     → new ≡ old ++ flat_map pair_text (p ∷ rest)
-then_pair p rest old mid new here more = more ∙ ap (λ (x : List ℕ). x ++ flat_map pair_text rest) here ∙ append_assoc old (pair_text p) (flat_map pair_text rest)
+then_pair p rest old mid new here more = more ∙ ap (λ (x : List ℕ). x ++ flat_map pair_text rest) here
+    ∙ append_assoc old (pair_text p) (flat_map pair_text rest)
 
 pub last_number : (field : Field) (n m : ℕ) (old new : List ℕ) → n ≡ m → new ≡ old ++ pair_text (field, one_number n)
     → new ≡ old ++ flat_map pair_text ((field, one_number m) ∷ [])
@@ -39,8 +42,10 @@ two_parts : (x y old mid new : List ℕ) → mid ≡ old ++ x → new ≡ mid ++
 two_parts x y old mid new before after = after ∙ ap (λ (z : List ℕ). z ++ y) before ∙ append_assoc old x y
 
 -- a table more
-pub one_tank_more : (tanks : List Tank) (i : ℕ) (t d : Tank) (old text new : List ℕ) → i < length tanks → t ≡ get_or tanks i d
-    → text ≡ old ++ flat_map tank_text (take i tanks) → new ≡ text ++ tank_text t → new ≡ old ++ flat_map tank_text (take (i + 1) tanks)
+pub one_tank_more : (tanks : List Tank) (i : ℕ) (t d : Tank) (old text new : List ℕ) → i < length tanks
+    → t ≡ get_or tanks i d
+    → text ≡ old ++ flat_map tank_text (take i tanks) → new ≡ text ++ tank_text t
+    → new ≡ old ++ flat_map tank_text (take (i + 1) tanks)
 one_tank_more tanks i t d old text new there same before after =
     two_parts (flat_map tank_text (take i tanks)) (tank_text t) old text new before after
     ∙ ap (λ (x : List ℕ). old ++ x) (sym (
@@ -49,7 +54,8 @@ one_tank_more tanks i t d old text new there same before after =
     ∙ ap (λ (x : Tank). flat_map tank_text (take i tanks) ++ tank_text x) (sym same)))
 
 -- a name, and those behind it
-pub names_behind : (f : ℕ → List ℕ) (tanks rest : List ℕ) (i : ℕ) (old mid new : List ℕ) → tanks ≡ i ∷ rest → mid ≡ old ++ quoted (f i)
+pub names_behind : (f : ℕ → List ℕ) (tanks rest : List ℕ) (i : ℕ) (old mid new : List ℕ) → tanks ≡ i ∷ rest
+    → mid ≡ old ++ quoted (f i)
     → new ≡ mid ++ flat_map (λ j. codes ", " ++ quoted (f j)) rest → new ≡ old ++ names_text (map f tanks)
 names_behind f tanks rest i old mid new parts here more =
     two_parts (quoted (f i)) (flat_map (λ j. codes ", " ++ quoted (f j)) rest) old mid new here more
@@ -61,7 +67,8 @@ names_behind f tanks rest i old mid new parts here more =
 unequal : (a b : ℕ) → a ≢ b → (a == b) ≡ false
 unequal a b h = grind (arith, nat_tests)
 
-first_pairs : (l : LineData) (k : ℕ) → k ≡ 0 → stage_pairs l k ≡ only_tank l (stage l k) ∷ (fields.Lift, one_number (stage l k).lift) ∷ []
+first_pairs : (l : LineData) (k : ℕ) → k ≡ 0
+    → stage_pairs l k ≡ only_tank l (stage l k) ∷ (fields.Lift, one_number (stage l k).lift) ∷ []
 first_pairs l k first = rw (eq-eqb k 0 first)
 
 last_pairs : (l : LineData) (k : ℕ) → k ≢ 0 → k + 1 ≡ length l.stages
@@ -73,7 +80,8 @@ inner_pairs : (l : LineData) (k : ℕ) (single : Bool) → single ≡ is_single 
 inner_pairs l k single same later inner = rw (unequal k 0 later, unequal (k + 1) (length l.stages) inner, same)
 
 -- the header and the lines of a stage
-stage_with : (l : LineData) (k : ℕ) (pairs : List Pair) (old head new : List ℕ) → stage_pairs l k ≡ pairs → head ≡ old ++ header_text fields.Stage
+stage_with : (l : LineData) (k : ℕ) (pairs : List Pair) (old head new : List ℕ) → stage_pairs l k ≡ pairs
+    → head ≡ old ++ header_text fields.Stage
     → new ≡ head ++ flat_map pair_text pairs → new ≡ old ++ stage_text l k
 stage_with l k pairs old head new is here more =
     two_parts (header_text fields.Stage) (flat_map pair_text pairs) old head new here more
@@ -82,29 +90,37 @@ stage_with l k pairs old head new is here more =
 the_stage : (l : LineData) (k : ℕ) (s : Stage) → k < length l.stages → s ≡ get_or l.stages k s → s ≡ stage l k
 the_stage l k s there read = get_or_read l.stages k s there read no_stage
 
-pub first_stage : (l : LineData) (k : ℕ) (s : Stage) (old head one new : List ℕ) → k < length l.stages → s ≡ get_or l.stages k s → k ≡ 0
-    → head ≡ old ++ header_text fields.Stage → one ≡ head ++ pair_text (only_tank l s) → new ≡ one ++ pair_text (fields.Lift, one_number s.lift)
+pub first_stage : (l : LineData) (k : ℕ) (s : Stage) (old head one new : List ℕ) → k < length l.stages
+    → s ≡ get_or l.stages k s → k ≡ 0
+    → head ≡ old ++ header_text fields.Stage → one ≡ head ++ pair_text (only_tank l s)
+    → new ≡ one ++ pair_text (fields.Lift, one_number s.lift)
     → new ≡ old ++ stage_text l k
 first_stage l k s old head one new there read first header named lift =
     let same = the_stage l k s there read in
     let rest = (fields.Lift, one_number s.lift) ∷ [] in
-    let pairs : stage_pairs l k ≡ only_tank l s ∷ rest = first_pairs l k first ∙ ap (λ (t : Stage). only_tank l t ∷ (fields.Lift, one_number t.lift) ∷ []) (sym same) in
+    let pairs : stage_pairs l k ≡ only_tank l s ∷ rest = first_pairs l k first
+    ∙ ap (λ (t : Stage). only_tank l t ∷ (fields.Lift, one_number t.lift) ∷ []) (sym same) in
     stage_with l k (only_tank l s ∷ rest) old head new pairs header
     (then_pair (only_tank l s) rest head one new named (last_number fields.Lift s.lift s.lift one new refl lift))
 
-pub last_stage : (l : LineData) (k : ℕ) (s : Stage) (old head one new : List ℕ) → k < length l.stages → s ≡ get_or l.stages k s → k ≢ 0 → k + 1 ≡ length l.stages
-    → head ≡ old ++ header_text fields.Stage → one ≡ head ++ pair_text (only_tank l s) → new ≡ one ++ pair_text (fields.Lower, one_number s.lower)
+pub last_stage : (l : LineData) (k : ℕ) (s : Stage) (old head one new : List ℕ) → k < length l.stages
+    → s ≡ get_or l.stages k s → k ≢ 0 → k + 1 ≡ length l.stages
+    → head ≡ old ++ header_text fields.Stage → one ≡ head ++ pair_text (only_tank l s)
+    → new ≡ one ++ pair_text (fields.Lower, one_number s.lower)
     → new ≡ old ++ stage_text l k
 last_stage l k s old head one new there read later last header named lower =
     let same = the_stage l k s there read in
     let rest = (fields.Lower, one_number s.lower) ∷ [] in
-    let pairs : stage_pairs l k ≡ only_tank l s ∷ rest = last_pairs l k later last ∙ ap (λ (t : Stage). only_tank l t ∷ (fields.Lower, one_number t.lower) ∷ []) (sym same) in
+    let pairs : stage_pairs l k ≡ only_tank l s ∷ rest = last_pairs l k later last
+    ∙ ap (λ (t : Stage). only_tank l t ∷ (fields.Lower, one_number t.lower) ∷ []) (sym same) in
     stage_with l k (only_tank l s ∷ rest) old head new pairs header
     (then_pair (only_tank l s) rest head one new named (last_number fields.Lower s.lower s.lower one new refl lower))
 
-pub inner_stage : (l : LineData) (k : ℕ) (single : Bool) (s : Stage) (old head new : List ℕ) → single ≡ is_single l → k < length l.stages → s ≡ get_or l.stages k s
+pub inner_stage : (l : LineData) (k : ℕ) (single : Bool) (s : Stage) (old head new : List ℕ) → single ≡ is_single l
+    → k < length l.stages → s ≡ get_or l.stages k s
     → k ≢ 0 → k + 1 ≢ length l.stages → head ≡ old ++ header_text fields.Stage
-    → new ≡ head ++ flat_map pair_text ((if single then only_tank l s else all_tanks l s) ∷ window_pairs s) → new ≡ old ++ stage_text l k
+    → new ≡ head ++ flat_map pair_text ((if single then only_tank l s else all_tanks l s) ∷ window_pairs s)
+    → new ≡ old ++ stage_text l k
 inner_stage l k single s old head new version there read later inner header lines =
     let same = the_stage l k s there read in
     let pairs : stage_pairs l k ≡ (if single then only_tank l s else all_tanks l s) ∷ window_pairs s =
@@ -124,7 +140,8 @@ each_more n f =
     ∙ ap (λ (xs : List ℕ). flat_map f (range_with_len 0 n) ++ xs) (append-nil (f n))
 
 -- what stands for one number more, behind what was there
-pub one_more : (old text new : List ℕ) (n : ℕ) (f : ℕ → List ℕ) → text ≡ old ++ flat_map f (range_with_len 0 n) → new ≡ text ++ f n
+pub one_more : (old text new : List ℕ) (n : ℕ) (f : ℕ → List ℕ) → text ≡ old ++ flat_map f (range_with_len 0 n)
+    → new ≡ text ++ f n
     → new ≡ old ++ flat_map f (range_with_len 0 (n + 1))
 one_more old text new n f before after =
     after ∙ ap (λ (xs : List ℕ). xs ++ f n) before ∙ append_assoc old (flat_map f (range_with_len 0 n)) (f n)
@@ -134,13 +151,16 @@ one_more old text new n f before after =
 
 pub tanks_there : (l : LineData) (k : ℕ) → IsLine l → All (λ i. i < length l.tanks) (stage l k).tanks
 tanks_there l k valid =
-    All-from_get_or (λ i. i < length l.tanks) (stage l k).tanks 0 (λ j there. valid.stages.there k (get_or (stage l k).tanks j 0) (Contains-get_or (stage l k).tanks j 0 there))
+    All-from_get_or (λ i. i < length l.tanks) (stage l k).tanks 0
+    (λ j there. valid.stages.there k (get_or (stage l k).tanks j 0) (Contains-get_or (stage l k).tanks j 0 there))
 
 -- ---- the whole
 
 pub whole : (l : LineData) (none root tanks all : List ℕ) → none ≡ [] → root ≡ none ++ flat_map pair_text (root_pairs l)
-    → tanks ≡ root ++ flat_map tank_text l.tanks → all ≡ tanks ++ flat_map (stage_text l) (range_with_len 0 (length l.stages)) → all ≡ line_file_text l
+    → tanks ≡ root ++ flat_map tank_text l.tanks
+    → all ≡ tanks ++ flat_map (stage_text l) (range_with_len 0 (length l.stages)) → all ≡ line_file_text l
 unfolding line_file_text
 whole l none root tanks all empty p q r =
     two_parts (flat_map pair_text (root_pairs l)) _ none root all p (two_parts (flat_map tank_text l.tanks) _ root tanks all q r)
-    ∙ ap (λ (x : List ℕ). x ++ (flat_map pair_text (root_pairs l) ++ (flat_map tank_text l.tanks ++ flat_map (stage_text l) (range_with_len 0 (length l.stages))))) empty
+    ∙ ap (λ (x : List ℕ). x ++ (flat_map pair_text (root_pairs l)
+    ++ (flat_map tank_text l.tanks ++ flat_map (stage_text l) (range_with_len 0 (length l.stages))))) empty

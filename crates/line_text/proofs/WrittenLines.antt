@@ -96,10 +96,17 @@ later_names : (names : List (List ℕ)) → AllByRecursion IsNameText names
     → IsItemsText false false false (items_of (map string names)) (flat_map (λ n. codes ", " ++ quoted n) names ++ codes "]")
 later_names [] h = refl
 later_names (a ∷ names) h =
-    let rest = flat_map (λ n. codes ", " ++ quoted n) names in
-    (quoted a, rest ++ codes "]", append_assoc (codes ", " ++ quoted a) rest (codes "]") ∙ append_assoc (codes ", ") (quoted a) (rest ++ codes "]"), sym (quoted_is a h.0), later_names names h.1)
+    let rest = flat_map (λ n. codes ", " ++ quoted n) names in (
+      quoted a,
+      rest ++ codes "]",
+      append_assoc (codes ", " ++ quoted a) rest (codes "]")
+          ∙ append_assoc (codes ", ") (quoted a) (rest ++ codes "]"),
+      sym (quoted_is a h.0),
+      later_names names h.1,
+    )
 
-items_text : (names : List (List ℕ)) → AllByRecursion IsNameText names → IsItemsText false false true (items_of (map string names)) (names_text names ++ codes "]")
+items_text : (names : List (List ℕ)) → AllByRecursion IsNameText names
+    → IsItemsText false false true (items_of (map string names)) (names_text names ++ codes "]")
 items_text [] h = refl
 items_text (a ∷ names) h =
     let rest = flat_map (λ n. codes ", " ++ quoted n) names in
@@ -133,30 +140,35 @@ bare_key fields.Max = refl
 bare_key fields.Lift = refl
 bare_key fields.Lower = refl
 
-pair_line : (started : Bool) (p : Pair) → CanStand p.1 → IsLineText false started ([], name_of p.0) (key_value (data_of p.1)) (pair_text p)
+pair_line : (started : Bool) (p : Pair) → CanStand p.1
+    → IsLineText false started ([], name_of p.0) (key_value (data_of p.1)) (pair_text p)
 pair_line started p h =
     (value_text p.1, ap (λ (key : List ℕ). key ++ (codes " = " ++ (value_text p.1 ++ codes "\n"))) (sym (bare_key p.0)), is_value_text p.1 h)
 
 header_line : (field : Field) → IsLineText false true ([], name_of field) array_table (header_text field)
 header_line field = ap (λ (key : List ℕ). codes "\n[[" ++ (key ++ codes "]]\n")) (sym (bare_key field))
 
-pub pair_lines : (started : Bool) (pairs : List Pair) → AllStand pairs → IsLinesText false started (map pair_expression pairs) (flat_map pair_text pairs)
+pub pair_lines : (started : Bool) (pairs : List Pair) → AllStand pairs
+    → IsLinesText false started (map pair_expression pairs) (flat_map pair_text pairs)
 pair_lines started [] h = refl
 pair_lines started (p ∷ pairs) h = (pair_text p, flat_map pair_text pairs, refl, pair_line started p h.0, pair_lines true pairs h.1)
 
-pub table_lines : (field : Field) (pairs : List Pair) → AllStand pairs → IsLinesText false true (table_expressions field pairs) (header_text field ++ flat_map pair_text pairs)
+pub table_lines : (field : Field) (pairs : List Pair) → AllStand pairs
+    → IsLinesText false true (table_expressions field pairs) (header_text field ++ flat_map pair_text pairs)
 table_lines field pairs h = (header_text field, flat_map pair_text pairs, refl, header_line field, pair_lines true pairs h)
 
 -- tables one after another
 pub lines_joined : {X : Type 0} (text : X → List ℕ) (expressions : X → List Expression) (xs : List X)
-    → AllByRecursion (λ x. IsLinesText false true (expressions x) (text x)) xs → IsLinesText false true (flat_map expressions xs) (flat_map text xs)
+    → AllByRecursion (λ x. IsLinesText false true (expressions x) (text x)) xs
+    → IsLinesText false true (flat_map expressions xs) (flat_map text xs)
 lines_joined text expressions [] h = refl
 lines_joined text expressions (x ∷ xs) h =
     IsLinesText-append false true (expressions x) (flat_map expressions xs) (text x) (flat_map text xs) h.0 (lines_joined text expressions xs h.1)
 
 -- ---- what is printed
 
-flat_items : (names : List (List ℕ)) → (items_depth (items_of (map string names)) ≡ 0) × (items_have_valid_dates (items_of (map string names)) ≡ true)
+flat_items : (names : List (List ℕ))
+    → (items_depth (items_of (map string names)) ≡ 0) × (items_have_valid_dates (items_of (map string names)) ≡ true)
 flat_items [] = (refl, refl)
 flat_items (a ∷ names) = let more = flat_items names in (rw (more.0) refl, more.1)
 
@@ -176,7 +188,8 @@ pub all_printed : (es fs : List Expression) → AllPrinted es → AllPrinted fs 
 all_printed [] fs a b = b
 all_printed (e ∷ es) fs a b = (a.0, all_printed es fs a.1 b)
 
-pub printed_joined : {X : Type 0} (expressions : X → List Expression) (xs : List X) → ((x : X) → AllPrinted (expressions x)) → AllPrinted (flat_map expressions xs)
+pub printed_joined : {X : Type 0} (expressions : X → List Expression) (xs : List X)
+    → ((x : X) → AllPrinted (expressions x)) → AllPrinted (flat_map expressions xs)
 printed_joined expressions [] h = tt
 printed_joined expressions (x ∷ xs) h = all_printed (expressions x) (flat_map expressions xs) (h x) (printed_joined expressions xs h)
 
@@ -212,9 +225,11 @@ key_ascii fields.Lower = by_test (name_of fields.Lower) refl
 
 quoted_ascii : (name : List ℕ) → IsNameText name → IsAscii (quoted name)
 quoted_ascii name h =
-    IsAscii-append (codes "\"") (name ++ codes "\"") (by_test (codes "\"") refl) (IsAscii-append name (codes "\"") (name_ascii name h) (by_test (codes "\"") refl))
+    IsAscii-append (codes "\"") (name ++ codes "\"") (by_test (codes "\"") refl)
+    (IsAscii-append name (codes "\"") (name_ascii name h) (by_test (codes "\"") refl))
 
-later_ascii : (names : List (List ℕ)) → AllByRecursion IsNameText names → IsAscii (flat_map (λ n. codes ", " ++ quoted n) names)
+later_ascii : (names : List (List ℕ)) → AllByRecursion IsNameText names
+    → IsAscii (flat_map (λ n. codes ", " ++ quoted n) names)
 later_ascii [] h = IsAscii-nil
 later_ascii (a ∷ names) h =
     IsAscii-append (codes ", " ++ quoted a) (flat_map (λ n. codes ", " ++ quoted n) names)
@@ -228,7 +243,9 @@ value_ascii : (w : Written) → CanStand w → IsAscii (value_text w)
 value_ascii (one_number n) h = IsAscii-decimal n (omega arith)
 value_ascii (one_name name) h = quoted_ascii name h
 value_ascii (several_names names) h =
-    IsAscii-append (codes "[") (names_text names ++ codes "]") (by_test (codes "[") refl) (IsAscii-append (names_text names) (codes "]") (names_ascii names h) (by_test (codes "]") refl))
+    IsAscii-append (codes "[") (names_text names ++ codes "]")
+    (by_test (codes "[") refl) (IsAscii-append (names_text names) (codes "]") (names_ascii names h)
+    (by_test (codes "]") refl))
 
 pair_ascii : (p : Pair) → CanStand p.1 → IsAscii (pair_text p)
 pair_ascii p h =
@@ -239,12 +256,15 @@ pub pairs_ascii : (pairs : List Pair) → AllStand pairs → IsAscii (flat_map p
 pairs_ascii [] h = IsAscii-nil
 pairs_ascii (p ∷ pairs) h = IsAscii-append (pair_text p) (flat_map pair_text pairs) (pair_ascii p h.0) (pairs_ascii pairs h.1)
 
-pub table_ascii : (field : Field) (pairs : List Pair) → AllStand pairs → IsAscii (header_text field ++ flat_map pair_text pairs)
+pub table_ascii : (field : Field) (pairs : List Pair) → AllStand pairs
+    → IsAscii (header_text field ++ flat_map pair_text pairs)
 table_ascii field pairs h =
     IsAscii-append (header_text field) (flat_map pair_text pairs)
-    (IsAscii-append (codes "\n[[") _ (by_test (codes "\n[[") refl) (IsAscii-append (name_of field) (codes "]]\n") (key_ascii field) (by_test (codes "]]\n") refl)))
+    (IsAscii-append (codes "\n[[") _ (by_test (codes "\n[[") refl) (IsAscii-append (name_of field) (codes "]]\n")
+    (key_ascii field) (by_test (codes "]]\n") refl)))
     (pairs_ascii pairs h)
 
-pub ascii_joined : {X : Type 0} (text : X → List ℕ) (xs : List X) → AllByRecursion (λ x. IsAscii (text x)) xs → IsAscii (flat_map text xs)
+pub ascii_joined : {X : Type 0} (text : X → List ℕ) (xs : List X) → AllByRecursion (λ x. IsAscii (text x)) xs
+    → IsAscii (flat_map text xs)
 ascii_joined text [] h = IsAscii-nil
 ascii_joined text (x ∷ xs) h = IsAscii-append (text x) (flat_map text xs) h.0 (ascii_joined text xs h.1)

@@ -49,12 +49,14 @@ tank_expressions t = table_expressions fields.Tank (tank_pairs t)
 abbrev pub tank_nodes : Tank → Nodes
 tank_nodes t = node (codes "at") (value (integer (pos t.at))) (node (codes "name") (value (string t.name)) no_nodes)
 
-first_tank : (l : LineData) (t : Tank) (s : List (List ℕ)) → run (front l (back l), s) (tank_expressions t) ≡ Some (with_tanks l (open_array no_items (tank_nodes t)), codes "tank" ∷ [])
+first_tank : (l : LineData) (t : Tank) (s : List (List ℕ))
+    → run (front l (back l), s) (tank_expressions t) ≡ Some (with_tanks l (open_array no_items (tank_nodes t)), codes "tank" ∷ [])
 unfolding at_key along_dots along_header define
 first_tank l t s = refl
 
 next_tank : (l : LineData) (t : Tank) (done : Items) (last : Nodes) (s : List (List ℕ))
-    → run (with_tanks l (open_array done last), s) (tank_expressions t) ≡ Some (with_tanks l (open_array (push_item done (table (close last))) (tank_nodes t)), codes "tank" ∷ [])
+    → run (with_tanks l (open_array done last), s) (tank_expressions t)
+    ≡ Some (with_tanks l (open_array (push_item done (table (close last))) (tank_nodes t)), codes "tank" ∷ [])
 unfolding at_key along_dots along_header define
 next_tank l t done last s = refl
 
@@ -109,7 +111,8 @@ abbrev pub stage_expressions : LineData → ℕ → List Expression
 stage_expressions l k = table_expressions fields.Stage (stage_pairs l k)
 
 first_stage : (l : LineData) (tanks : Node) (st : Stage) (s : List (List ℕ))
-    → run (with_tanks l tanks, s) (table_expressions fields.Stage (first_form l st)) ≡ Some (with_stages l tanks (open_array no_items (filled no_nodes (first_form l st))), codes "stage" ∷ [])
+    → run (with_tanks l tanks, s) (table_expressions fields.Stage (first_form l st))
+    ≡ Some (with_stages l tanks (open_array no_items (filled no_nodes (first_form l st))), codes "stage" ∷ [])
 unfolding at_key along_dots along_header define
 first_stage l tanks st s = refl
 
@@ -119,11 +122,13 @@ Adds l tanks done last s pairs =
     run (with_stages l tanks (open_array done last), s) (table_expressions fields.Stage pairs)
     ≡ Some (with_stages l tanks (open_array (push_item done (table (close last))) (filled no_nodes pairs)), codes "stage" ∷ [])
 
-adds_first : (l : LineData) (tanks : Node) (done : Items) (last : Nodes) (s : List (List ℕ)) (st : Stage) → Adds l tanks done last s (first_form l st)
+adds_first : (l : LineData) (tanks : Node) (done : Items) (last : Nodes) (s : List (List ℕ)) (st : Stage)
+    → Adds l tanks done last s (first_form l st)
 unfolding at_key along_dots along_header define
 adds_first l tanks done last s st = refl
 
-adds_last : (l : LineData) (tanks : Node) (done : Items) (last : Nodes) (s : List (List ℕ)) (st : Stage) → Adds l tanks done last s (last_form l st)
+adds_last : (l : LineData) (tanks : Node) (done : Items) (last : Nodes) (s : List (List ℕ)) (st : Stage)
+    → Adds l tanks done last s (last_form l st)
 unfolding at_key along_dots along_header define
 adds_last l tanks done last s st = refl
 
@@ -133,13 +138,15 @@ unfolding at_key along_dots along_header define
 adds_one l tanks done last s name least None lift lower = refl
 adds_one l tanks done last s name least (Some greatest) lift lower = refl
 
-adds_several : (l : LineData) (tanks : Node) (done : Items) (last : Nodes) (s : List (List ℕ)) (names : List (List ℕ)) (least : ℕ) (greatest : Option ℕ) (lift lower : ℕ)
+adds_several : (l : LineData) (tanks : Node) (done : Items) (last : Nodes) (s : List (List ℕ)) (names : List (List ℕ))
+    (least : ℕ) (greatest : Option ℕ) (lift lower : ℕ)
     → Adds l tanks done last s (inner_form (fields.Tanks, several_names names) least greatest lift lower)
 unfolding at_key along_dots along_header define
 adds_several l tanks done last s names least None lift lower = refl
 adds_several l tanks done last s names least (Some greatest) lift lower = refl
 
-next_stage : (l : LineData) (tanks : Node) (done : Items) (last : Nodes) (s : List (List ℕ)) (k : ℕ) → Adds l tanks done last s (stage_pairs l k)
+next_stage : (l : LineData) (tanks : Node) (done : Items) (last : Nodes) (s : List (List ℕ)) (k : ℕ)
+    → Adds l tanks done last s (stage_pairs l k)
 next_stage l tanks done last s k =
     let st = stage l k in
     by_form l k (Adds l tanks done last s)
@@ -164,7 +171,9 @@ LeadsTo doc es root tables =
     (done : Items) × (last : Nodes) × (s : List (List ℕ)) × (run doc es ≡ Some (root (open_array done last), s)) × (tables_of done last ≡ tables)
 
 run_on : {X : Type 0} (root : Node → Nodes) (expressions : X → List Expression) (nodes : X → Nodes)
-    → ((x : X) (done : Items) (last : Nodes) (s : List (List ℕ)) → (t : List (List ℕ)) × (run (root (open_array done last), s) (expressions x) ≡ Some (root (open_array (push_item done (table (close last))) (nodes x)), t)))
+    → ((x : X) (done : Items) (last : Nodes) (s : List (List ℕ)) → (t : List (List ℕ))
+    × (run (root (open_array done last), s) (expressions x)
+    ≡ Some (root (open_array (push_item done (table (close last))) (nodes x)), t)))
     → (xs : List X) (done : Items) (last : Nodes) (s : List (List ℕ))
     → LeadsTo (root (open_array done last), s) (flat_map expressions xs) root (tables_of done last ++ map (λ x. table (close (nodes x))) xs)
 run_on root expressions nodes step [] done last s = (done, last, s, refl, sym (append-nil (tables_of done last)))
@@ -176,37 +185,49 @@ run_on root expressions nodes step (x ∷ xs) done last s =
       d,
       n,
       u,
-      run-append (root (open_array done last), s) (expressions x) (flat_map expressions xs) ∙ ap (option_and_then (λ doc. run doc (flat_map expressions xs))) made ∙ ran,
+      run-append (root (open_array done last), s) (expressions x) (flat_map expressions xs)
+          ∙ ap (option_and_then (λ doc. run doc (flat_map expressions xs))) made ∙ ran,
       tables ∙ ap (λ (ts : List Data). ts ++ all) (list_push items (table (close (nodes x)))) ∙ append_assoc (list_of items) (table (close (nodes x)) ∷ []) all,
     )
 
 -- a document, some lines, and others
-then_run : (doc mid : Document) (es fs : List Expression) (o : Option Document) → run doc es ≡ Some mid → run mid fs ≡ o → run doc (es ++ fs) ≡ o
+then_run : (doc mid : Document) (es fs : List Expression) (o : Option Document) → run doc es ≡ Some mid → run mid fs ≡ o
+    → run doc (es ++ fs) ≡ o
 then_run doc mid es fs o before after = run-append doc es fs ∙ ap (option_and_then (λ d. run d fs)) before ∙ after
 
 tanks_made : (l : LineData) (tanks : List Tank) (s : List (List ℕ)) → 1 ≤ length tanks
     → LeadsTo (front l (back l), s) (flat_map tank_expressions tanks) (with_tanks l) (map (λ t. table (close (tank_nodes t))) tanks)
 tanks_made l [] s some = absurd (omega arith)
 tanks_made l (t ∷ tanks) s some =
-    let (d, n, u, ran, tables) = run_on (with_tanks l) tank_expressions tank_nodes (λ x done last v. (codes "tank" ∷ [], next_tank l x done last v)) tanks no_items (tank_nodes t) (codes "tank" ∷ []) in
+    let (d, n, u, ran, tables) = run_on (with_tanks l) tank_expressions tank_nodes
+    (λ x done last v. (codes "tank" ∷ [], next_tank l x done last v)) tanks no_items (tank_nodes t)
+    (codes "tank" ∷ []) in
     (d, n, u, then_run (front l (back l), s) _ (tank_expressions t) (flat_map tank_expressions tanks) _ (first_tank l t s) ran, tables)
 
 abbrev pub stage_table : LineData → ℕ → Data
 stage_table l k = table (close (stage_nodes l k))
 
 stages_made : (l : LineData) (tanks : Node) (count : ℕ) (s : List (List ℕ)) → 1 ≤ count
-    → LeadsTo (with_tanks l tanks, s) (flat_map (stage_expressions l) (range_with_len 0 count)) (with_stages l tanks) (map (stage_table l) (range_with_len 0 count))
+    → LeadsTo (with_tanks l tanks, s) (flat_map (stage_expressions l) (range_with_len 0 count)) (with_stages l tanks)
+    (map (stage_table l) (range_with_len 0 count))
 stages_made l tanks zero s some = absurd (omega arith)
 stages_made l tanks (suc count) s some =
     let later = range_with_len 1 count in
     let (d, n, u, ran, tables) = run_on (with_stages l tanks) (stage_expressions l) (stage_nodes l)
-    (λ k done last v. (codes "stage" ∷ [], next_stage l tanks done last v k)) later no_items (stage_nodes l 0) (codes "stage" ∷ []) in
-    (d, n, u, then_run (with_tanks l tanks, s) _ (stage_expressions l 0) (flat_map (stage_expressions l) later) _ (first_stage l tanks (stage l 0) s) ran, tables)
+    (λ k done last v. (codes "stage" ∷ [], next_stage l tanks done last v k)) later no_items (stage_nodes l 0) (codes "stage" ∷ []) in (
+      d,
+      n,
+      u,
+      then_run (with_tanks l tanks, s) _ (stage_expressions l 0) (flat_map (stage_expressions l) later) _
+          (first_stage l tanks (stage l 0) s) ran,
+      tables,
+    )
 
 -- ---- the whole
 
 abbrev pub file_expressions : LineData → List Expression
-file_expressions l = map pair_expression (root_pairs l) ++ (flat_map tank_expressions l.tanks ++ flat_map (stage_expressions l) (range_with_len 0 (length l.stages)))
+file_expressions l = map pair_expression (root_pairs l) ++ (flat_map tank_expressions l.tanks
+    ++ flat_map (stage_expressions l) (range_with_len 0 (length l.stages)))
 
 abbrev pub tank_table : Tank → Data
 tank_table t = table (close (tank_nodes t))
@@ -234,11 +255,13 @@ pub record IsMade (l : LineData) (doc : Document) : Type 0 where
   pub tank_tables : list_of tanks ≡ map tank_table l.tanks
   pub stage_tables : list_of stages ≡ map (stage_table l) (range_with_len 0 (length l.stages))
 
-pub document_made : (l : LineData) → 1 ≤ length l.tanks → 1 ≤ length l.stages → (doc : Document) × (run (no_nodes, []) (file_expressions l) ≡ Some doc) × IsMade l doc
+pub document_made : (l : LineData) → 1 ≤ length l.tanks → 1 ≤ length l.stages
+    → (doc : Document) × (run (no_nodes, []) (file_expressions l) ≡ Some doc) × IsMade l doc
 document_made l tanks stages =
     let (d, n, u, ran, tank_tables) = tanks_made l l.tanks [] tanks in
     let (e, m, v, ran_on, stage_tables) = stages_made l (open_array d n) (length l.stages) u stages in
-    let made = then_run (front l (back l), []) _ (flat_map tank_expressions l.tanks) (flat_map (stage_expressions l) (range_with_len 0 (length l.stages))) _ ran ran_on in (
+    let made = then_run (front l (back l), []) _ (flat_map tank_expressions l.tanks)
+    (flat_map (stage_expressions l) (range_with_len 0 (length l.stages))) _ ran ran_on in (
       (with_stages l (open_array d n) (open_array e m), v),
       then_run (no_nodes, []) _ (map pair_expression (root_pairs l)) _ _ (root_made l) made,
       record {

@@ -23,11 +23,13 @@ use Rattle.line_text.proofs.WrittenTables.{at_first, at_last, inner_at, describe
 
 -- ---- what holds of each
 
-all_from : {X : Type 0} (P : X → Type 0) (d : X) (xs : List X) → ((i : ℕ) → i < length xs → P (get_or xs i d)) → AllByRecursion P xs
+all_from : {X : Type 0} (P : X → Type 0) (d : X) (xs : List X) → ((i : ℕ) → i < length xs → P (get_or xs i d))
+    → AllByRecursion P xs
 all_from P d [] each = tt
 all_from P d (x ∷ xs) each = (each 0 (omega arith), all_from P d xs (λ i there. each (suc i) (omega arith)))
 
-all_mapped : {X Y : Type 0} (P : Y → Type 0) (f : X → Y) (d : X) (xs : List X) → ((i : ℕ) → i < length xs → P (f (get_or xs i d))) → AllByRecursion P (map f xs)
+all_mapped : {X Y : Type 0} (P : Y → Type 0) (f : X → Y) (d : X) (xs : List X)
+    → ((i : ℕ) → i < length xs → P (f (get_or xs i d))) → AllByRecursion P (map f xs)
 all_mapped P f d [] each = tt
 all_mapped P f d (x ∷ xs) each = (each 0 (omega arith), all_mapped P f d xs (λ i there. each (suc i) (omega arith)))
 
@@ -37,7 +39,8 @@ all_in_range P (suc n) a each = (each a (omega arith) (omega arith), all_in_rang
 
 -- ---- what a line writes can stand in a file
 
-greatest_stands : (greatest : Option ℕ) (rest : List Pair) → IfSome greatest (λ m. m ≤ 20000) → AllStand rest → AllStand (greatest_pairs greatest ++ rest)
+greatest_stands : (greatest : Option ℕ) (rest : List Pair) → IfSome greatest (λ m. m ≤ 20000) → AllStand rest
+    → AllStand (greatest_pairs greatest ++ rest)
 greatest_stands None rest small stand = stand
 greatest_stands (Some m) rest small stand = (omega (arith, small), stand)
 
@@ -79,9 +82,11 @@ module _ (l : LineData) (valid : IsLine l) where
   all_stand : (k : ℕ) → AllByRecursion IsNameText (map (tank_name l) (stage l k).tanks)
   all_stand k =
       let tanks = (stage l k).tanks in
-      all_mapped IsNameText (tank_name l) 0 tanks (λ j there. name_stands (get_or tanks j 0) (valid.stages.there k (get_or tanks j 0) (Contains-get_or tanks j 0 there)))
+      all_mapped IsNameText (tank_name l) 0 tanks (λ j there. name_stands (get_or tanks j 0)
+      (valid.stages.there k (get_or tanks j 0) (Contains-get_or tanks j 0 there)))
 
-  small_greatest : (greatest : Option ℕ) → IfSome greatest (λ m. (1 ≤ m) × (m ≤ 20000)) → IfSome greatest (λ m. m ≤ 20000)
+  small_greatest : (greatest : Option ℕ) → IfSome greatest (λ m. (1 ≤ m) × (m ≤ 20000))
+      → IfSome greatest (λ m. m ≤ 20000)
   small_greatest None h = tt
   small_greatest (Some m) h = h.1
 
@@ -92,11 +97,23 @@ module _ (l : LineData) (valid : IsLine l) where
       (λ first. (only_stands k there, (omega (arith, (at_first l valid k first).lift.1), tt)))
       (λ later last. (only_stands k there, (omega (arith, (at_last l valid k later last).lower.1), tt)))
       (λ later inner single.
-      let facts = inner_at l valid k there later inner in
-      (only_stands k there, (omega (arith, facts.least.1), greatest_stands s.max _ (small_greatest s.max facts.greatest) (omega (arith, facts.lift.1), (omega (arith, facts.lower.1), tt)))))
+      let facts = inner_at l valid k there later inner in (
+        only_stands k there,
+        (
+          omega (arith, facts.least.1),
+          greatest_stands s.max _ (small_greatest s.max facts.greatest)
+              (omega (arith, facts.lift.1), (omega (arith, facts.lower.1), tt)),
+        ),
+      ))
       (λ later inner several.
-      let facts = inner_at l valid k there later inner in
-      (all_stand k, (omega (arith, facts.least.1), greatest_stands s.max _ (small_greatest s.max facts.greatest) (omega (arith, facts.lift.1), (omega (arith, facts.lower.1), tt)))))
+      let facts = inner_at l valid k there later inner in (
+        all_stand k,
+        (
+          omega (arith, facts.least.1),
+          greatest_stands s.max _ (small_greatest s.max facts.greatest)
+              (omega (arith, facts.lift.1), (omega (arith, facts.lower.1), tt)),
+        ),
+      ))
 
   -- ---- the text as lines
 
@@ -104,19 +121,26 @@ module _ (l : LineData) (valid : IsLine l) where
   unfolding line_file_text
   file_lines =
       let stages = range_with_len 0 (length l.stages) in
-      let tank_lines = lines_joined tank_text tank_expressions l.tanks (all_from (λ t. IsLinesText false true (tank_expressions t) (tank_text t)) no_tank l.tanks
+      let tank_lines = lines_joined tank_text tank_expressions l.tanks
+      (all_from (λ t. IsLinesText false true (tank_expressions t) (tank_text t)) no_tank l.tanks
       (λ i there. table_lines fields.Tank (tank_pairs (tank l i)) (tank_stands i there))) in
-      let stage_lines = lines_joined (stage_text l) (stage_expressions l) stages (all_in_range (λ k. IsLinesText false true (stage_expressions l k) (stage_text l k)) (length l.stages) 0
+      let stage_lines = lines_joined (stage_text l) (stage_expressions l) stages
+      (all_in_range (λ k. IsLinesText false true (stage_expressions l k) (stage_text l k)) (length l.stages) 0
       (λ k low there. table_lines fields.Stage (stage_pairs l k) (stage_stands k (omega arith)))) in
-      IsLinesText-append false false (map pair_expression (root_pairs l)) (flat_map tank_expressions l.tanks ++ flat_map (stage_expressions l) stages) (flat_map pair_text (root_pairs l))
+      IsLinesText-append false false (map pair_expression (root_pairs l))
+      (flat_map tank_expressions l.tanks ++ flat_map (stage_expressions l) stages)
+      (flat_map pair_text (root_pairs l))
       (flat_map tank_text l.tanks ++ flat_map (stage_text l) stages) (pair_lines false (root_pairs l) root_stands)
-      (IsLinesText-append false true (flat_map tank_expressions l.tanks) (flat_map (stage_expressions l) stages) (flat_map tank_text l.tanks) (flat_map (stage_text l) stages) tank_lines stage_lines)
+      (IsLinesText-append false true (flat_map tank_expressions l.tanks) (flat_map (stage_expressions l) stages)
+      (flat_map tank_text l.tanks) (flat_map (stage_text l) stages) tank_lines stage_lines)
 
   file_printed : AllPrinted (file_expressions l)
   file_printed =
       let stages = range_with_len 0 (length l.stages) in
-      all_printed (map pair_expression (root_pairs l)) (flat_map tank_expressions l.tanks ++ flat_map (stage_expressions l) stages) (pairs_printed (root_pairs l))
-      (all_printed (flat_map tank_expressions l.tanks) (flat_map (stage_expressions l) stages) (printed_joined tank_expressions l.tanks (λ t. table_printed fields.Tank (tank_pairs t)))
+      all_printed (map pair_expression (root_pairs l)) (flat_map tank_expressions l.tanks
+      ++ flat_map (stage_expressions l) stages) (pairs_printed (root_pairs l))
+      (all_printed (flat_map tank_expressions l.tanks) (flat_map (stage_expressions l) stages)
+      (printed_joined tank_expressions l.tanks (λ t. table_printed fields.Tank (tank_pairs t)))
       (printed_joined (stage_expressions l) stages (λ k. table_printed fields.Stage (stage_pairs l k))))
 
   file_ascii : IsAscii (line_file_text l)
@@ -125,8 +149,10 @@ module _ (l : LineData) (valid : IsLine l) where
       let stages = range_with_len 0 (length l.stages) in
       IsAscii-append (flat_map pair_text (root_pairs l)) (flat_map tank_text l.tanks ++ flat_map (stage_text l) stages) (pairs_ascii (root_pairs l) root_stands)
       (IsAscii-append (flat_map tank_text l.tanks) (flat_map (stage_text l) stages)
-      (ascii_joined tank_text l.tanks (all_from (λ t. IsAscii (tank_text t)) no_tank l.tanks (λ i there. table_ascii fields.Tank (tank_pairs (tank l i)) (tank_stands i there))))
-      (ascii_joined (stage_text l) stages (all_in_range (λ k. IsAscii (stage_text l k)) (length l.stages) 0 (λ k low there. table_ascii fields.Stage (stage_pairs l k) (stage_stands k (omega arith))))))
+      (ascii_joined tank_text l.tanks (all_from (λ t. IsAscii (tank_text t)) no_tank l.tanks
+      (λ i there. table_ascii fields.Tank (tank_pairs (tank l i)) (tank_stands i there))))
+      (ascii_joined (stage_text l) stages (all_in_range (λ k. IsAscii (stage_text l k)) (length l.stages) 0
+      (λ k low there. table_ascii fields.Stage (stage_pairs l k) (stage_stands k (omega arith))))))
 
   no_mark : skip_bom (line_file_text l) ≡ line_file_text l
   unfolding line_file_text skip_bom

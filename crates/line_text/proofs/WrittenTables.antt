@@ -34,19 +34,22 @@ use Rattle.line_text.proofs.WrittenNodes.{tank_table, stage_table, root_table, p
 -- ---- lists read back
 
 -- what is undone item by item
-all_back : {X Y : Type 0} (f : X → Y) (g : Y → X) (d : X) (xs : List X) → ((i : ℕ) → i < length xs → g (f (get_or xs i d)) ≡ get_or xs i d) → map g (map f xs) ≡ xs
+all_back : {X Y : Type 0} (f : X → Y) (g : Y → X) (d : X) (xs : List X)
+    → ((i : ℕ) → i < length xs → g (f (get_or xs i d)) ≡ get_or xs i d) → map g (map f xs) ≡ xs
 all_back f g d [] each = refl
 all_back f g d (x ∷ xs) each =
     ap (λ y. y ∷ map g (map f xs)) (each 0 (omega arith)) ∙ ap (λ ys. x ∷ ys) (all_back f g d xs (λ i there. each (suc i) (omega arith)))
 
 -- the items of a list by their numbers
-each_back : {X Y : Type 0} (f : ℕ → Y) (g : Y → X) (d : X) (xs : List X) (a : ℕ) → ((i : ℕ) → i < length xs → g (f (a + i)) ≡ get_or xs i d)
+each_back : {X Y : Type 0} (f : ℕ → Y) (g : Y → X) (d : X) (xs : List X) (a : ℕ)
+    → ((i : ℕ) → i < length xs → g (f (a + i)) ≡ get_or xs i d)
     → map g (map f (range_with_len a (length xs))) ≡ xs
 each_back f g d [] a each = refl
 each_back f g d (x ∷ xs) a each =
     let here : a + 0 ≡ a = omega arith in
     ap (λ y. y ∷ map g (map f (range_with_len (a + 1) (length xs)))) (sym (ap (λ n. g (f n)) here) ∙ each 0 (omega arith))
-    ∙ ap (λ ys. x ∷ ys) (each_back f g d xs (a + 1) (λ i there. let next : a + 1 + i ≡ a + suc i = omega arith in ap (λ n. g (f n)) next ∙ each (suc i) (omega arith)))
+    ∙ ap (λ ys. x ∷ ys) (each_back f g d xs (a + 1) (λ i there. let next : a + 1 + i ≡ a + suc i = omega arith in ap
+    (λ n. g (f n)) next ∙ each (suc i) (omega arith)))
 
 -- ---- tanks
 
@@ -77,9 +80,11 @@ module _ (l : LineData) (valid : IsLine l) where
   numbers_back : (k : ℕ) → map (number_of l.tanks) (map (tank_name l) (stage l k).tanks) ≡ (stage l k).tanks
   numbers_back k =
       let tanks = (stage l k).tanks in
-      all_back (tank_name l) (number_of l.tanks) 0 tanks (λ j there. number_is (get_or tanks j 0) (valid.stages.there k (get_or tanks j 0) (Contains-get_or tanks j 0 there)))
+      all_back (tank_name l) (number_of l.tanks) 0 tanks (λ j there. number_is (get_or tanks j 0)
+      (valid.stages.there k (get_or tanks j 0) (Contains-get_or tanks j 0 there)))
 
-  only_back : (k : ℕ) → length (stage l k).tanks ≡ 1 → number_of l.tanks (tank_name l (get_or (stage l k).tanks 0 0)) ∷ [] ≡ (stage l k).tanks
+  only_back : (k : ℕ) → length (stage l k).tanks ≡ 1
+      → number_of l.tanks (tank_name l (get_or (stage l k).tanks 0 0)) ∷ [] ≡ (stage l k).tanks
   only_back k one =
       let tanks = (stage l k).tanks in
       let here = valid.stages.there k (get_or tanks 0 0) (Contains-get_or tanks 0 0 (omega arith)) in
@@ -112,7 +117,8 @@ pub record IsInner (s : Stage) : Type 0 where
   pub lift : (1 ≤ s.lift) × (s.lift ≤ 500)
   pub lower : (1 ≤ s.lower) × (s.lower ≤ 500)
 
-some_greatest : (greatest : Option ℕ) (least : ℕ) → 1 ≤ least → IfSome greatest (λ m. (least ≤ m) × (m ≤ 20000)) → IfSome greatest (λ m. (1 ≤ m) × (m ≤ 20000))
+some_greatest : (greatest : Option ℕ) (least : ℕ) → 1 ≤ least → IfSome greatest (λ m. (least ≤ m) × (m ≤ 20000))
+    → IfSome greatest (λ m. (1 ≤ m) × (m ≤ 20000))
 some_greatest None least some h = tt
 some_greatest (Some m) least some h = (omega (arith, h.0), h.1)
 
@@ -162,7 +168,8 @@ module _ (l : LineData) (valid : IsLine l) where
 -- ---- stages read back
 
 -- a stage by its parts
-with_parts : (s : Stage) (tanks : List ℕ) (least : ℕ) (greatest : Option ℕ) (lift lower : ℕ) → tanks ≡ s.tanks → least ≡ s.min → greatest ≡ s.max → lift ≡ s.lift → lower ≡ s.lower
+with_parts : (s : Stage) (tanks : List ℕ) (least : ℕ) (greatest : Option ℕ) (lift lower : ℕ) → tanks ≡ s.tanks
+    → least ≡ s.min → greatest ≡ s.max → lift ≡ s.lift → lower ≡ s.lower
     → record { tanks = tanks; min = least; max = greatest; lift = lift; lower = lower } ≡ s
 with_parts s tanks least greatest lift lower a b c d e = rw (a, b, c, d, e)
 
@@ -170,15 +177,18 @@ texts_back : (names : List (List ℕ)) → filter_map as_str (list_of (items_of 
 texts_back [] = refl
 texts_back (name ∷ names) = ap (λ ns. name ∷ ns) (texts_back names)
 
-one_back : (tanks : List Tank) (s : Stage) (name : List ℕ) (greatest : Option ℕ) → IsInner s → IfSome greatest (λ m. (1 ≤ m) × (m ≤ 20000)) → greatest ≡ s.max → number_of tanks name ∷ [] ≡ s.tanks
+one_back : (tanks : List Tank) (s : Stage) (name : List ℕ) (greatest : Option ℕ) → IsInner s
+    → IfSome greatest (λ m. (1 ≤ m) × (m ≤ 20000)) → greatest ≡ s.max → number_of tanks name ∷ [] ≡ s.tanks
     → stage_of tanks (pairs_table (inner_form (fields.Tank, one_name name) s.min greatest s.lift s.lower)) ≡ s
 one_back tanks s name None inner small same named =
-    with_parts s _ _ _ _ _ named (natural_small s.min (omega (arith, inner.least.1))) same (natural_small s.lift (omega (arith, inner.lift.1))) (natural_small s.lower (omega (arith, inner.lower.1)))
+    with_parts s _ _ _ _ _ named (natural_small s.min (omega (arith, inner.least.1))) same
+    (natural_small s.lift (omega (arith, inner.lift.1))) (natural_small s.lower (omega (arith, inner.lower.1)))
 one_back tanks s name (Some m) inner small same named =
     with_parts s _ _ _ _ _ named (natural_small s.min (omega (arith, inner.least.1))) (ap Some (natural_small m (omega (arith, small.1))) ∙ same)
     (natural_small s.lift (omega (arith, inner.lift.1))) (natural_small s.lower (omega (arith, inner.lower.1)))
 
-several_back : (tanks : List Tank) (s : Stage) (names : List (List ℕ)) (greatest : Option ℕ) → IsInner s → IfSome greatest (λ m. (1 ≤ m) × (m ≤ 20000)) → greatest ≡ s.max
+several_back : (tanks : List Tank) (s : Stage) (names : List (List ℕ)) (greatest : Option ℕ) → IsInner s
+    → IfSome greatest (λ m. (1 ≤ m) × (m ≤ 20000)) → greatest ≡ s.max
     → map (number_of tanks) names ≡ s.tanks
     → stage_of tanks (pairs_table (inner_form (fields.Tanks, several_names names) s.min greatest s.lift s.lower)) ≡ s
 several_back tanks s names None inner small same named =
@@ -186,7 +196,8 @@ several_back tanks s names None inner small same named =
     (natural_small s.lift (omega (arith, inner.lift.1))) (natural_small s.lower (omega (arith, inner.lower.1)))
 several_back tanks s names (Some m) inner small same named =
     with_parts s _ _ _ _ _ (ap (λ ns. map (number_of tanks) ns) (texts_back names) ∙ named) (natural_small s.min (omega (arith, inner.least.1)))
-    (ap Some (natural_small m (omega (arith, small.1))) ∙ same) (natural_small s.lift (omega (arith, inner.lift.1))) (natural_small s.lower (omega (arith, inner.lower.1)))
+    (ap Some (natural_small m (omega (arith, small.1))) ∙ same) (natural_small s.lift (omega (arith, inner.lift.1)))
+    (natural_small s.lower (omega (arith, inner.lower.1)))
 
 module _ (l : LineData) (valid : IsLine l) where
   stage_back : (k : ℕ) → k < length l.stages → stage_of l.tanks (stage_table l k) ≡ stage l k
@@ -195,10 +206,12 @@ module _ (l : LineData) (valid : IsLine l) where
       by_form l k (λ pairs. stage_of l.tanks (pairs_table pairs) ≡ s)
       (λ first.
       let facts = at_first l valid k first in
-      with_parts s _ _ _ _ _ (only_back l valid k facts.one_tank) (sym facts.no_least) (sym facts.no_greatest) (natural_small s.lift (omega (arith, facts.lift.1))) (sym facts.no_lower))
+      with_parts s _ _ _ _ _ (only_back l valid k facts.one_tank) (sym facts.no_least) (sym facts.no_greatest)
+      (natural_small s.lift (omega (arith, facts.lift.1))) (sym facts.no_lower))
       (λ later last.
       let facts = at_last l valid k later last in
-      with_parts s _ _ _ _ _ (only_back l valid k facts.one_tank) (sym facts.no_least) (sym facts.no_greatest) (sym facts.no_lift) (natural_small s.lower (omega (arith, facts.lower.1))))
+      with_parts s _ _ _ _ _ (only_back l valid k facts.one_tank) (sym facts.no_least) (sym facts.no_greatest)
+      (sym facts.no_lift) (natural_small s.lower (omega (arith, facts.lower.1))))
       (λ later inner single.
       let facts = inner_at l valid k there later inner in
       one_back l.tanks s (tank_name l (get_or s.tanks 0 0)) s.max facts facts.greatest refl (only_back l valid k (test_single l single k there)))
@@ -228,27 +241,50 @@ count_names : (names : List (List ℕ)) → length (list_of (items_of (map strin
 count_names [] = refl
 count_names (name ∷ names) = ap (λ n. suc n) (count_names names)
 
-tank_none : (place : Place) (track : ℕ) (t : Tank) → t.at ≤ track → table_why place (tank_rules track) (tank_table t) ≡ None
+tank_none : (place : Place) (track : ℕ) (t : Tank) → t.at ≤ track
+    → table_why place (tank_rules track) (tank_table t) ≡ None
 tank_none place track t on_track = table_none place (tank_rules track) (tank_table t) ((t.name, refl), ((t.at, refl, omega arith, on_track), tt)) refl
 
-first_none : (l : LineData) (place : Place) (s : Stage) → AtFirst s → table_why place first_stage_rules (pairs_table (first_form l s)) ≡ None
+first_none : (l : LineData) (place : Place) (s : Stage) → AtFirst s
+    → table_why place first_stage_rules (pairs_table (first_form l s)) ≡ None
 first_none l place s facts =
-    table_none place first_stage_rules (pairs_table (first_form l s)) ((tank_name l (get_or s.tanks 0 0), refl), ((s.lift, refl, facts.lift.0, facts.lift.1), tt)) refl
+    table_none place first_stage_rules (pairs_table (first_form l s))
+    ((tank_name l (get_or s.tanks 0 0), refl), ((s.lift, refl, facts.lift.0, facts.lift.1), tt)) refl
 
-last_none : (l : LineData) (place : Place) (s : Stage) → AtLast s → table_why place last_stage_rules (pairs_table (last_form l s)) ≡ None
+last_none : (l : LineData) (place : Place) (s : Stage) → AtLast s
+    → table_why place last_stage_rules (pairs_table (last_form l s)) ≡ None
 last_none l place s facts =
-    table_none place last_stage_rules (pairs_table (last_form l s)) ((tank_name l (get_or s.tanks 0 0), refl), ((s.lower, refl, facts.lower.0, facts.lower.1), tt)) refl
+    table_none place last_stage_rules (pairs_table (last_form l s))
+    ((tank_name l (get_or s.tanks 0 0), refl), ((s.lower, refl, facts.lower.0, facts.lower.1), tt)) refl
 
-one_none : (place : Place) (s : Stage) (name : List ℕ) (greatest : Option ℕ) → IsInner s → IfSome greatest (λ m. (1 ≤ m) × (m ≤ 20000))
+one_none : (place : Place) (s : Stage) (name : List ℕ) (greatest : Option ℕ) → IsInner s
+    → IfSome greatest (λ m. (1 ≤ m) × (m ≤ 20000))
     → table_why place single_stage_rules (pairs_table (inner_form (fields.Tank, one_name name) s.min greatest s.lift s.lower)) ≡ None
 one_none place s name None facts small =
-    table_none place single_stage_rules (pairs_table (inner_form (fields.Tank, one_name name) s.min None s.lift s.lower))
-    ((name, refl), ((s.min, refl, facts.least.0, facts.least.1), (refl, ((s.lift, refl, facts.lift.0, facts.lift.1), ((s.lower, refl, facts.lower.0, facts.lower.1), tt))))) refl
+    table_none place single_stage_rules (pairs_table (inner_form (fields.Tank, one_name name) s.min None s.lift s.lower)) (
+      (name, refl),
+      (
+        (s.min, refl, facts.least.0, facts.least.1),
+        (refl, ((s.lift, refl, facts.lift.0, facts.lift.1), ((s.lower, refl, facts.lower.0, facts.lower.1), tt))),
+      ),
+    ) refl
 one_none place s name (Some m) facts small =
-    table_none place single_stage_rules (pairs_table (inner_form (fields.Tank, one_name name) s.min (Some m) s.lift s.lower))
-    ((name, refl), ((s.min, refl, facts.least.0, facts.least.1), ((m, refl, small.0, small.1), ((s.lift, refl, facts.lift.0, facts.lift.1), ((s.lower, refl, facts.lower.0, facts.lower.1), tt))))) refl
+    table_none place single_stage_rules (pairs_table (inner_form (fields.Tank, one_name name) s.min (Some m) s.lift s.lower)) (
+      (name, refl),
+      (
+        (s.min, refl, facts.least.0, facts.least.1),
+        (
+          (m, refl, small.0, small.1),
+          (
+            (s.lift, refl, facts.lift.0, facts.lift.1),
+            ((s.lower, refl, facts.lower.0, facts.lower.1), tt),
+          ),
+        ),
+      ),
+    ) refl
 
-several_none : (place : Place) (s : Stage) (names : List (List ℕ)) (greatest : Option ℕ) → IsInner s → IfSome greatest (λ m. (1 ≤ m) × (m ≤ 20000))
+several_none : (place : Place) (s : Stage) (names : List (List ℕ)) (greatest : Option ℕ) → IsInner s
+    → IfSome greatest (λ m. (1 ≤ m) × (m ≤ 20000))
     → (1 ≤ length names) × (length names ≤ 4)
     → table_why place inner_stage_rules (pairs_table (inner_form (fields.Tanks, several_names names) s.min greatest s.lift s.lower)) ≡ None
 several_none place s names None facts small few =
@@ -261,7 +297,13 @@ several_none place s names (Some m) facts small few =
     let counted = count_names names in
     table_none place inner_stage_rules (pairs_table (inner_form (fields.Tanks, several_names names) s.min (Some m) s.lift s.lower)) (
       (items_of (map string names), refl, all_names names, omega arith, omega arith),
-      ((s.min, refl, facts.least.0, facts.least.1), ((m, refl, small.0, small.1), ((s.lift, refl, facts.lift.0, facts.lift.1), ((s.lower, refl, facts.lower.0, facts.lower.1), tt)))),
+      (
+        (s.min, refl, facts.least.0, facts.least.1),
+        (
+          (m, refl, small.0, small.1),
+          ((s.lift, refl, facts.lift.0, facts.lift.1), ((s.lower, refl, facts.lower.0, facts.lower.1), tt)),
+        ),
+      ),
     ) refl
 
 unequal : (a b : ℕ) → a ≢ b → (a == b) ≡ false
@@ -273,21 +315,25 @@ first_rules version count k first = rw (eq-eqb k 0 first)
 last_rules : (version count k : ℕ) → k ≢ 0 → k + 1 ≡ count → stage_rules version count k ≡ last_stage_rules
 last_rules version count k later last = rw (unequal k 0 later, eq-eqb (k + 1) count last)
 
-one_rules : (l : LineData) (count k : ℕ) → k ≢ 0 → k + 1 ≢ count → is_single l ≡ true → stage_rules (version_of l) count k ≡ single_stage_rules
+one_rules : (l : LineData) (count k : ℕ) → k ≢ 0 → k + 1 ≢ count → is_single l ≡ true
+    → stage_rules (version_of l) count k ≡ single_stage_rules
 one_rules l count k later inner single = rw (unequal k 0 later, unequal (k + 1) count inner, single)
 
-several_rules : (l : LineData) (count k : ℕ) → k ≢ 0 → k + 1 ≢ count → is_single l ≡ false → stage_rules (version_of l) count k ≡ inner_stage_rules
+several_rules : (l : LineData) (count k : ℕ) → k ≢ 0 → k + 1 ≢ count → is_single l ≡ false
+    → stage_rules (version_of l) count k ≡ inner_stage_rules
 several_rules l count k later inner several = rw (unequal k 0 later, unequal (k + 1) count inner, several)
 
 module _ (l : LineData) (valid : IsLine l) where
-  stage_none : (place : Place) (k : ℕ) → k < length l.stages → table_why place (stage_rules (version_of l) (length l.stages) k) (stage_table l k) ≡ None
+  stage_none : (place : Place) (k : ℕ) → k < length l.stages
+      → table_why place (stage_rules (version_of l) (length l.stages) k) (stage_table l k) ≡ None
   stage_none place k there =
       let s = stage l k in
       let rules = stage_rules (version_of l) (length l.stages) k in
       let counted = length-map s.tanks (tank_name l) in
       let few = valid.stages.count k there in
       by_form l k (λ pairs. table_why place rules (pairs_table pairs) ≡ None)
-      (λ first. ap (λ rs. table_why place rs (pairs_table (first_form l s))) (first_rules (version_of l) (length l.stages) k first) ∙ first_none l place s (at_first l valid k first))
+      (λ first. ap (λ rs. table_why place rs (pairs_table (first_form l s)))
+      (first_rules (version_of l) (length l.stages) k first) ∙ first_none l place s (at_first l valid k first))
       (λ later last. ap (λ rs. table_why place rs (pairs_table (last_form l s))) (last_rules (version_of l) (length l.stages) k later last)
       ∙ last_none l place s (at_last l valid k later last))
       (λ later inner single.
@@ -318,7 +364,8 @@ module _ (l : LineData) (valid : IsLine l) (tanks stages : Items) (tank_tables :
       let limits = valid.limits in
       let version = version_within (is_single l) in
       let tanks_are : list_all is_table (list_of tanks) ≡ true = rw tank_tables (all_tank_tables l.tanks) in
-      let stages_are : list_all is_table (list_of stages) ≡ true = rw stage_tables (all_tables (stage_table l) (range_with_len 0 (length l.stages)) (λ k. refl)) in
+      let stages_are : list_all is_table (list_of stages) ≡ true = rw stage_tables
+      (all_tables (stage_table l) (range_with_len 0 (length l.stages)) (λ k. refl)) in
       table_none places.Root root_rules (root_table l tanks stages) (
         (version_of l, refl, version.0, version.1),
         (
@@ -358,7 +405,8 @@ module _ (l : LineData) (valid : IsLine l) (tanks stages : Items) (tank_tables :
   tank_at i there = ap (λ (ds : List Data). get_or ds i no_value) tank_tables ∙ get_or-map tank_table l.tanks i no_tank no_value there
 
   stage_at : (k : ℕ) → k < length l.stages → get_or (list_of stages) k no_value ≡ stage_table l k
-  stage_at k there = ap (λ (ds : List Data). get_or ds k no_value) stage_tables ∙ get_or-map-range_with_len (stage_table l) 0 (length l.stages) k k no_value there (omega arith)
+  stage_at k there = ap (λ (ds : List Data). get_or ds k no_value) stage_tables
+      ∙ get_or-map-range_with_len (stage_table l) 0 (length l.stages) k k no_value there (omega arith)
 
   tanks_none : tanks_why (root_table l tanks stages) ≡ None
   tanks_none =
@@ -391,16 +439,29 @@ module _ (l : LineData) (valid : IsLine l) (tanks stages : Items) (tank_tables :
   stages_described =
       ap (λ (ts : List Tank). map (stage_of ts) (list_of stages)) tanks_described ∙ ap (map (stage_of l.tanks)) stage_tables ∙ stages_back l valid
 
-  line_with : (track gap hoists degree max_period load unload : ℕ) (ts : List Tank) (ss : List Stage) → track ≡ l.track → gap ≡ l.gap → hoists ≡ l.hoists → degree ≡ l.degree
+  line_with : (track gap hoists degree max_period load unload : ℕ) (ts : List Tank) (ss : List Stage) → track ≡ l.track
+      → gap ≡ l.gap → hoists ≡ l.hoists → degree ≡ l.degree
       → max_period ≡ l.max_period → load ≡ l.load → unload ≡ l.unload → ts ≡ l.tanks → ss ≡ l.stages
-      → record { track = track; gap = gap; hoists = hoists; degree = degree; max_period = max_period; load = load; unload = unload; tanks = ts; stages = ss } ≡ l
+      → record {
+        track = track;
+        gap = gap;
+        hoists = hoists;
+        degree = degree;
+        max_period = max_period;
+        load = load;
+        unload = unload;
+        tanks = ts;
+        stages = ss;
+      } ≡ l
   line_with track gap hoists degree max_period load unload ts ss a b c d e f g h i = rw (a, b, c, d, e, f, g, h, i)
 
   pub describes : line_of (root_table l tanks stages) ≡ l
   describes =
       let limits = valid.limits in
       line_with _ _ _ _ _ _ _ _ _ track_is (natural_small l.gap (omega (arith, limits.gap.1))) (natural_small l.hoists (omega (arith, limits.hoists.1)))
-      (natural_small l.degree (omega (arith, limits.degree.1))) (natural_small l.max_period (omega (arith, limits.max_period.1))) (natural_small l.load (omega (arith, limits.load)))
+      (natural_small l.degree (omega (arith, limits.degree.1)))
+      (natural_small l.max_period (omega (arith, limits.max_period.1)))
+      (natural_small l.load (omega (arith, limits.load)))
       (natural_small l.unload (omega (arith, limits.unload))) tanks_described stages_described
 
   pub nothing_wrong : why_of (root_table l tanks stages) ≡ None

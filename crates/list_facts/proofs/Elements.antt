@@ -26,11 +26,13 @@ contains_map {X} {Y} f (y ∷ ys) x c =
     ⊎_elim (λ e. subst P e (contains_first (f y) (map f ys))) (λ r. contains_rest (f y) (f x) (map f ys) (contains_map f ys x r))
     (contains_cases y x ys c)
 
-pub contains_flat_map : {X Y : Type 0} (f : X → List Y) (xs : List X) (x : X) (y : Y) → Contains xs x → Contains (f x) y → Contains (flat_map f xs) y
+pub contains_flat_map : {X Y : Type 0} (f : X → List Y) (xs : List X) (x : X) (y : Y) → Contains xs x → Contains (f x) y
+    → Contains (flat_map f xs) y
 contains_flat_map f [] x y c d = absurd (omega (arith, c.1))
 contains_flat_map {X} {Y} f (z ∷ xs) x y c d =
     let P : X → Type 0 = λ v. Contains (f v) y in
-    ⊎_elim (λ e. Contains-append_left (f z) (flat_map f xs) y (subst P (sym e) d)) (λ r. Contains-append_right (f z) (flat_map f xs) y (contains_flat_map f xs x y r d))
+    ⊎_elim (λ e. Contains-append_left (f z) (flat_map f xs) y (subst P (sym e) d))
+    (λ r. Contains-append_right (f z) (flat_map f xs) y (contains_flat_map f xs x y r d))
     (contains_cases z x xs c)
 
 keeps_first : (b : Bool) (x : ℕ) (xs : List ℕ) → b ≡ true → Contains (cond b (x ∷ xs) xs) x
@@ -42,7 +44,8 @@ keeps_rest true x y xs c = contains_rest x y xs c
 keeps_rest false x y xs c = c
 
 -- what passes a test
-pub contains_filter : (test : ℕ → Bool) (xs : List ℕ) (x : ℕ) → Contains xs x → test x ≡ true → Contains (filter test xs) x
+pub contains_filter : (test : ℕ → Bool) (xs : List ℕ) (x : ℕ) → Contains xs x → test x ≡ true
+    → Contains (filter test xs) x
 contains_filter test [] x c e = absurd (omega (arith, c.1))
 contains_filter test (y ∷ xs) x c e =
     let P : ℕ → Type 0 = λ z. Contains (filter test (y ∷ xs)) z in

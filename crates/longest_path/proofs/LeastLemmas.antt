@@ -1,4 +1,5 @@
--- From a row that a round left as it was to the least solution, and from a node that grew in the last round to there being none.
+-- From a row that a round left as it was to the least solution, and from a node that grew in the last round to there
+-- being none.
 use Rattle.std.proofs.Common.{◌≡◌, ℕ, zero, suc, ◌-◌, ◌*◌, ◌<◌, ◌≤◌, ⊎_elim, List, [], ◌∷◌, ◌++◌, length, get_or, refl, sym, ap, ◌∙◌, subst, ℤ, pos, ◌<ℤ◌, arith}
 use Rattle.std.specs.Prelude.{unsigned_abs}
 use Rattle.std.proofs.lemmas.Int.{ints}
@@ -18,7 +19,8 @@ pub record IsStart (s : SystemData) (first : ℕ → ℤ) : Type 0 where
   pub at_start : first 0 ≡ pos 0
   pub others : (i : ℕ) → 0 < i → i < s.nodes → first i ≡ far
 
-pub start_is : (s : SystemData) (row rest : List ℤ) → length row ≡ s.nodes → 0 < s.nodes → number row 0 ≡ pos 0 → ((i : ℕ) → 0 < i → i < length row → number row i ≡ far) → IsStart s (cell s.nodes (row ++ rest) 0)
+pub start_is : (s : SystemData) (row rest : List ℤ) → length row ≡ s.nodes → 0 < s.nodes → number row 0 ≡ pos 0
+    → ((i : ℕ) → 0 < i → i < length row → number row i ≡ far) → IsStart s (cell s.nodes (row ++ rest) 0)
 start_is s row rest count zero_in start others = record {
   at_start = row_first s.nodes 0 row rest count zero_in ∙ start;
   others = λ i after i_in. row_first s.nodes i row rest count i_in ∙ others i after (omega (arith, i_in, count));
@@ -29,7 +31,8 @@ abbrev pub IsStill : SystemData → ℕ → (ℕ → ℤ) → ℕ → Type 0
 IsStill s period first m =
     (i : ℕ) → i < s.nodes → value_from s (weights_at s period) first (suc m) i ≡ value_from s (weights_at s period) first m i
 
-pub still_solves : (s : SystemData) (period : ℕ) (first : ℕ → ℤ) (m : ℕ) → IsSystem s → IsStill s period first m → Solves s period (value_from s (weights_at s period) first m)
+pub still_solves : (s : SystemData) (period : ℕ) (first : ℕ → ℤ) (m : ℕ) → IsSystem s → IsStill s period first m
+    → Solves s period (value_from s (weights_at s period) first m)
 still_solves s period first m valid still k lt =
     omega (arith, ints, from_brings s (weights_at s period) first m k lt, still (arc s k).to (valid.ends k lt).1)
 
@@ -38,7 +41,8 @@ FromStart s period first m i =
     (ks : List ℕ) × (length ks ≤ m) × Leads s 0 ks i × (walk_weight (weights_at s period) ks ≡ value_from s (weights_at s period) first m i)
 
 -- a node that node 0 reaches has no more than walks from node 0 bring, so what it has came from there
-pub from_start : (s : SystemData) (period : ℕ) (first : ℕ → ℤ) (m i : ℕ) → IsSystem s → IsStart s first → period ≤ 20001 → m ≤ 124 → IsStill s period first m → IsReached s i → i < s.nodes → FromStart s period first m i
+pub from_start : (s : SystemData) (period : ℕ) (first : ℕ → ℤ) (m i : ℕ) → IsSystem s → IsStart s first → period ≤ 20001
+    → m ≤ 124 → IsStill s period first m → IsReached s i → i < s.nodes → FromStart s period first m i
 from_start s period first m i valid start p le still reached i_in =
     let wt = weights_at s period in
     let t = value_from s wt first m in
@@ -57,7 +61,10 @@ from_start s period first m i valid start p le still reached i_in =
     absurd (omega (arith, ints, sum, begins, weighs, short, le, bound, below, c.2, valid.nodes.1, at_0, start.at_start)))
     (cases_eq from 0)
 
-pub is_least : (s : SystemData) (period : ℕ) (first : ℕ → ℤ) (m : ℕ) (out : List ℤ) → IsSystem s → IsStart s first → period ≤ 20001 → m ≤ 124 → IsStill s period first m → ((i : ℕ) → i < s.nodes → IsReached s i) → length out ≡ s.nodes → ((i : ℕ) → i < s.nodes → number out i ≡ value_from s (weights_at s period) first m i) → IsLeastSolution s period out
+pub is_least : (s : SystemData) (period : ℕ) (first : ℕ → ℤ) (m : ℕ) (out : List ℤ) → IsSystem s → IsStart s first
+    → period ≤ 20001 → m ≤ 124 → IsStill s period first m → ((i : ℕ) → i < s.nodes → IsReached s i)
+    → length out ≡ s.nodes → ((i : ℕ) → i < s.nodes → number out i ≡ value_from s (weights_at s period) first m i)
+    → IsLeastSolution s period out
 is_least s period first m out valid start p le still reached count is =
     let wt = weights_at s period in
     let row = value_from s wt first m in
@@ -78,7 +85,11 @@ is_least s period first m out valid start p le still reached count is =
     }
 
 -- no tick is larger than the weights of a walk to another node
-pub ticks_within : (s : SystemData) (period : ℕ) (first : ℕ → ℤ) (m : ℕ) (out : List ℤ) (w i : ℕ) → IsSystem s → IsStart s first → period ≤ 20001 → m < s.nodes → IsStill s period first m → ((j : ℕ) → j < s.nodes → IsReached s j) → length out ≡ s.nodes → ((j : ℕ) → j < s.nodes → number out j ≡ value_from s (weights_at s period) first m j) → AreWithin s period w → unsigned_abs (number out i) ≤ (s.nodes - 1) * w
+pub ticks_within : (s : SystemData) (period : ℕ) (first : ℕ → ℤ) (m : ℕ) (out : List ℤ) (w i : ℕ) → IsSystem s
+    → IsStart s first → period ≤ 20001 → m < s.nodes → IsStill s period first m
+    → ((j : ℕ) → j < s.nodes → IsReached s j) → length out ≡ s.nodes
+    → ((j : ℕ) → j < s.nodes → number out j ≡ value_from s (weights_at s period) first m j) → AreWithin s period w
+    → unsigned_abs (number out i) ≤ (s.nodes - 1) * w
 ticks_within s period first m out w i valid start p lt still reached count is within =
     ⊎_elim
     (λ i_in.
@@ -89,7 +100,9 @@ ticks_within s period first m out w i valid start p lt still reached count is wi
     (λ past. let e : number out i ≡ pos 0 = get_or_past out i (pos 0) (omega (arith, past, count)) in omega (arith, ints, e))
     (cases_lt i s.nodes)
 
-pub none_where_grown : (s : SystemData) (period : ℕ) (first : ℕ → ℤ) (i : ℕ) (t : ℕ → ℤ) → IsSystem s → i < s.nodes → value_from s (weights_at s period) first (s.nodes - 1) i <ℤ value_from s (weights_at s period) first s.nodes i → Solves s period t → ⊥
+pub none_where_grown : (s : SystemData) (period : ℕ) (first : ℕ → ℤ) (i : ℕ) (t : ℕ → ℤ) → IsSystem s → i < s.nodes
+    → value_from s (weights_at s period) first (s.nodes - 1) i <ℤ value_from s (weights_at s period) first s.nodes i
+    → Solves s period t → ⊥
 none_where_grown s period first i t valid i_in grown solves =
     let wt = weights_at s period in
     let (from, ks, short, walk, sum) = from_some s wt first s.nodes i in
@@ -98,7 +111,8 @@ none_where_grown s period first i t valid i_in grown solves =
     omega (arith, ints, grown, sum, c.3, most)
 
 -- ---- the least solution is one
-same_numbers : (xs ys : List ℤ) → length xs ≡ length ys → ((i : ℕ) → i < length xs → get_or xs i (pos 0) ≡ get_or ys i (pos 0)) → xs ≡ ys
+same_numbers : (xs ys : List ℤ) → length xs ≡ length ys
+    → ((i : ℕ) → i < length xs → get_or xs i (pos 0) ≡ get_or ys i (pos 0)) → xs ≡ ys
 same_numbers [] [] e h = refl
 same_numbers [] (y ∷ ys) e h = absurd (omega (arith, e))
 same_numbers (x ∷ xs) [] e h = absurd (omega (arith, e))

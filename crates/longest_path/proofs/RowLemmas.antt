@@ -14,7 +14,8 @@ use Rattle.longest_path.proofs.NearLemmas.{round_brings}
 
 -- ---- rows in a table
 -- the row that was written, behind those before it
-pub row_new : (n k m i : ℕ) (done new rest : List ℤ) → k ≡ n → length done ≡ (m + 1) * k → length new ≡ k → i < n → cell n (done ++ (new ++ rest)) (m + 1) i ≡ number new i
+pub row_new : (n k m i : ℕ) (done new rest : List ℤ) → k ≡ n → length done ≡ (m + 1) * k → length new ≡ k → i < n
+    → cell n (done ++ (new ++ rest)) (m + 1) i ≡ number new i
 row_new n k m i done new rest e count size p =
     let same = ap (λ x. (m + 1) * x) e in
     let place : (m + 1) * n + i ≡ length done + i = omega (arith, same, count) in
@@ -23,7 +24,8 @@ row_new n k m i done new rest e count size p =
     ∙ get_or_append_left new rest (pos 0) i (omega (arith, p, size, e))
 
 -- the row before it
-pub row_old : (n k m i : ℕ) (rows done back : List ℤ) → k ≡ n → rows ≡ done ++ back → length done ≡ (m + 1) * k → i < n → number (take (length done - m * k) (drop (m * k) done)) i ≡ cell n rows m i
+pub row_old : (n k m i : ℕ) (rows done back : List ℤ) → k ≡ n → rows ≡ done ++ back → length done ≡ (m + 1) * k → i < n
+    → number (take (length done - m * k) (drop (m * k) done)) i ≡ cell n rows m i
 row_old n k m i rows done back e is count p =
     let same = ap (λ x. m * x) e in
     let inside : m * k + i < length done = omega (arith, count, p, e) in
@@ -34,7 +36,13 @@ row_old n k m i rows done back e is count p =
     ∙ ap (λ x. get_or rows (x + i) (pos 0)) same
 
 -- both, where a table is split behind row m; and the two rows as slices
-pub next_rows : (s : SystemData) (n m : ℕ) (rows done back new : List ℤ) → n ≡ s.nodes → m < s.nodes → IsTable s rows → rows ≡ done ++ back → length done ≡ (m + 1) * n → length back + (m + 1) * n ≡ length rows → length new ≡ length (take n back) → (length (take (length done - m * n) (drop (m * n) done)) ≡ s.nodes) × (length new ≡ s.nodes) × ((i : ℕ) → i < s.nodes → (cell s.nodes (done ++ (new ++ drop n back)) (m + 1) i ≡ number new i) × (number (take (length done - m * n) (drop (m * n) done)) i ≡ cell s.nodes rows m i) × (number (take n (new ++ drop n back)) i ≡ number new i))
+pub next_rows : (s : SystemData) (n m : ℕ) (rows done back new : List ℤ) → n ≡ s.nodes → m < s.nodes → IsTable s rows
+    → rows ≡ done ++ back → length done ≡ (m + 1) * n → length back + (m + 1) * n ≡ length rows
+    → length new ≡ length (take n back)
+    → (length (take (length done - m * n) (drop (m * n) done)) ≡ s.nodes) × (length new ≡ s.nodes)
+    × ((i : ℕ) → i < s.nodes → (cell s.nodes (done ++ (new ++ drop n back)) (m + 1) i ≡ number new i)
+    × (number (take (length done - m * n) (drop (m * n) done)) i ≡ cell s.nodes rows m i)
+    × (number (take n (new ++ drop n back)) i ≡ number new i))
 next_rows s n m rows done back new e lt table is front behind size =
     let room = mul-le (m + 1) n n n (omega (arith, lt, e)) (omega arith) in
     let count : length new ≡ n = omega (arith, size, length-take n back, behind, table, e, ap (λ x. x * x) e, room) in
@@ -55,7 +63,9 @@ row_first n i new rest size p =
     ap (λ x. get_or (new ++ rest) x (pos 0)) place ∙ get_or_append_left new rest (pos 0) i (omega (arith, p, size))
 
 -- a row that is read whole
-pub row_whole : (n k r : ℕ) (rows out : List ℤ) → k ≡ n → r < n → length rows ≡ (n + 1) * n → out ≡ take ((r + 1) * k - r * k) (drop (r * k) rows) → (length out ≡ n) × ((i : ℕ) → i < n → number out i ≡ cell n rows r i)
+pub row_whole : (n k r : ℕ) (rows out : List ℤ) → k ≡ n → r < n → length rows ≡ (n + 1) * n
+    → out ≡ take ((r + 1) * k - r * k) (drop (r * k) rows)
+    → (length out ≡ n) × ((i : ℕ) → i < n → number out i ≡ cell n rows r i)
 row_whole n k r rows out e lt count is =
     let same = ap (λ x. r * x) e in
     let room = mul-le (r + 1) n (n + 1) n (omega (arith, lt)) (omega arith) in
@@ -69,7 +79,12 @@ row_whole n k r rows out e lt count is =
     )
 
 -- one more row
-pub rows_more : (s : SystemData) (period : ℕ) (first : ℕ → ℤ) (m n : ℕ) (near : Near) (steps : List Step) (old new : List ℤ) → IsSystem s → IsPacked s period (length s.arcs) n near steps → AreRows s period first m old → ((i : ℕ) → i < s.nodes → unsigned_abs (cell s.nodes old m i) ≤ 20000000000000000) → IsTable s new → ((r i : ℕ) → r ≤ m → i < s.nodes → cell s.nodes new r i ≡ cell s.nodes old r i) → ((i : ℕ) → i < s.nodes → IsMade s.nodes near steps n (cell s.nodes old m) i (cell s.nodes new (m + 1) i)) → AreRows s period first (m + 1) new
+pub rows_more : (s : SystemData) (period : ℕ) (first : ℕ → ℤ) (m n : ℕ) (near : Near) (steps : List Step) (old new : List ℤ)
+    → IsSystem s → IsPacked s period (length s.arcs) n near steps → AreRows s period first m old
+    → ((i : ℕ) → i < s.nodes → unsigned_abs (cell s.nodes old m i) ≤ 20000000000000000) → IsTable s new
+    → ((r i : ℕ) → r ≤ m → i < s.nodes → cell s.nodes new r i ≡ cell s.nodes old r i)
+    → ((i : ℕ) → i < s.nodes → IsMade s.nodes near steps n (cell s.nodes old m) i (cell s.nodes new (m + 1) i))
+    → AreRows s period first (m + 1) new
 rows_more s period first m n near steps old new valid are rows small table kept made =
     let wt = weights_at s period in
     record {
@@ -77,7 +92,8 @@ rows_more s period first m n near steps old new valid are rows small table kept 
       is = λ r i le p.
           ⊎_elim
           (λ e.
-          ap (λ x. cell s.nodes new x i) e ∙ round_brings s period n near steps (cell s.nodes old m) i (cell s.nodes new (m + 1) i) are valid (λ j j_in. omega (arith, small j j_in)) p (made i p)
+          ap (λ x. cell s.nodes new x i) e ∙ round_brings s period n near steps (cell s.nodes old m) i
+          (cell s.nodes new (m + 1) i) are valid (λ j j_in. omega (arith, small j j_in)) p (made i p)
           ∙ brought_same s wt (cell s.nodes old m) wt (value_from s wt first m) i (length s.arcs) (rows.is m i (omega arith) p)
           (λ k lt. ap (λ z. z +ℤ wt k) (rows.is m (arc s k).from (omega arith) (valid.ends k lt).0))
           ∙ from_at s wt first (suc m) r i (omega (arith, e)))

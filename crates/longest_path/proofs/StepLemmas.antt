@@ -10,7 +10,10 @@ use Rattle.longest_path.specs.Steps.{step, IsRound}
 
 -- ---- a round
 -- one step more
-pub round_more : (steps : List Step) (nodes n : ℕ) (row base : ℕ → ℤ) (new : List ℤ) (one : Step) (offer z : ℤ) → ((i : ℕ) → i < nodes → IsRound steps n row i (base i) (number new i)) → length new ≡ nodes → one ≡ step steps n → one.to < nodes → offer ≡ row one.from +ℤ one.weight → z ≡ int_max (number new one.to) offer → (i : ℕ) → i < nodes → IsRound steps (n + 1) row i (base i) (number (set new one.to z) i)
+pub round_more : (steps : List Step) (nodes n : ℕ) (row base : ℕ → ℤ) (new : List ℤ) (one : Step) (offer z : ℤ)
+    → ((i : ℕ) → i < nodes → IsRound steps n row i (base i) (number new i)) → length new ≡ nodes → one ≡ step steps n
+    → one.to < nodes → offer ≡ row one.from +ℤ one.weight → z ≡ int_max (number new one.to) offer → (i : ℕ) → i < nodes
+    → IsRound steps (n + 1) row i (base i) (number (set new one.to z) i)
 round_more steps nodes n row base new one offer z h count is to_in sum max_is i i_in =
     let at = h i i_in in
     let to : one.to ≡ (step steps n).to = ap (λ (x : Step). x.to) is in
@@ -50,7 +53,10 @@ round_more steps nodes n row base new one offer z h count is to_in sum max_is i 
 pub round_none : (steps : List Step) (row : ℕ → ℤ) (i : ℕ) (base z : ℤ) → z ≡ base → IsRound steps 0 row i base z
 round_none steps row i base z e = record { keeps = omega (arith, ints, e); brings = λ p less ends. absurd (omega (arith, less)); some = inl e }
 
-pub round_small : (steps : List Step) (n : ℕ) (row : ℕ → ℤ) (i : ℕ) (base z : ℤ) → ((p : ℕ) → p < n → unsigned_abs (step steps p).weight ≤ 30000000000000) → ((j : ℕ) → unsigned_abs (row j) ≤ 40000000000000000) → unsigned_abs base ≤ 200000000000000000 → IsRound steps n row i base z → unsigned_abs z ≤ 200000000000000000
+pub round_small : (steps : List Step) (n : ℕ) (row : ℕ → ℤ) (i : ℕ) (base z : ℤ)
+    → ((p : ℕ) → p < n → unsigned_abs (step steps p).weight ≤ 30000000000000)
+    → ((j : ℕ) → unsigned_abs (row j) ≤ 40000000000000000) → unsigned_abs base ≤ 200000000000000000
+    → IsRound steps n row i base z → unsigned_abs z ≤ 200000000000000000
 round_small steps n row i base z light small begins h =
     ⊎_elim
     (λ kept. omega (arith, ints, kept, begins))

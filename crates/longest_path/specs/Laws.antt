@@ -11,7 +11,9 @@ ValuesAreGreatest =
 -- after a round that changes no node nothing changes any more
 abbrev pub RoundsStay : Type 0
 RoundsStay =
-    (s : SystemData) (wt first : ℕ → ℤ) (m d : ℕ) → IsSystem s → ((i : ℕ) → i < s.nodes → value_from s wt first (suc m) i ≡ value_from s wt first m i) → (i : ℕ) → i < s.nodes → value_from s wt first (m + d) i ≡ value_from s wt first m i
+    (s : SystemData) (wt first : ℕ → ℤ) (m d : ℕ) → IsSystem s
+    → ((i : ℕ) → i < s.nodes → value_from s wt first (suc m) i ≡ value_from s wt first m i) → (i : ℕ) → i < s.nodes
+    → value_from s wt first (m + d) i ≡ value_from s wt first m i
 
 -- a closed walk whose sums refute a period leaves no solution there
 abbrev pub ClosedWalkRefutes : Type 0

@@ -17,9 +17,12 @@ HasNodes nodes near =
 
 abbrev pub AreSmall : Near → Type 0
 AreSmall near =
-    (i : ℕ) → (unsigned_abs (number near.stay.items i) ≤ 100000000000000000) × (unsigned_abs (number near.rise.items i) ≤ 100000000000000000) × (unsigned_abs (number near.fall.items i) ≤ 100000000000000000)
+    (i : ℕ) → (unsigned_abs (number near.stay.items i) ≤ 100000000000000000)
+    × (unsigned_abs (number near.rise.items i) ≤ 100000000000000000)
+    × (unsigned_abs (number near.fall.items i) ≤ 100000000000000000)
 
--- z is what one of the near constraints brings node i from a row: from itself, from the node before it, or from the node behind it
+-- z is what one of the near constraints brings node i from a row: from itself, from the node before it, or from the
+-- node behind it
 abbrev pub IsNearOffer : ℕ → Near → (ℕ → ℤ) → ℕ → ℤ → Type 0
 IsNearOffer nodes near row i z =
     (row i +ℤ number near.stay.items i ≡ z)
@@ -56,9 +59,12 @@ pub record IsPacked (s : SystemData) (period m n : ℕ) (near : Near) (steps : L
   pub room : length steps ≡ length s.arcs
   pub nodes : HasNodes s.nodes near
   pub stays : (i : ℕ) → i < s.nodes → pos 0 ≤ℤ number near.stay.items i
-  pub some_stay : (i : ℕ) → i < s.nodes → (number near.stay.items i ≡ pos 0) ⊎ IsWeight s period m i i (number near.stay.items i)
-  pub some_rise : (i : ℕ) → i < s.nodes → (number near.rise.items i ≡ none) ⊎ IsWeight s period m (i - 1) i (number near.rise.items i)
-  pub some_fall : (i : ℕ) → i < s.nodes → (number near.fall.items i ≡ none) ⊎ IsWeight s period m (suc i) i (number near.fall.items i)
+  pub some_stay : (i : ℕ) → i < s.nodes
+      → (number near.stay.items i ≡ pos 0) ⊎ IsWeight s period m i i (number near.stay.items i)
+  pub some_rise : (i : ℕ) → i < s.nodes
+      → (number near.rise.items i ≡ none) ⊎ IsWeight s period m (i - 1) i (number near.rise.items i)
+  pub some_fall : (i : ℕ) → i < s.nodes
+      → (number near.fall.items i ≡ none) ⊎ IsWeight s period m (suc i) i (number near.fall.items i)
   pub some : (p : ℕ) → p < n → (k : ℕ) × (k < m) × (step steps p ≡ step_of s period k)
   pub all : (k : ℕ) → k < m → IsTaken s period n near steps k
 

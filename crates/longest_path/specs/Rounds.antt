@@ -12,7 +12,8 @@ abbrev pub walk_weight : (ℕ → ℤ) → List ℕ → ℤ
 walk_weight wt [] = pos 0
 walk_weight wt (k ∷ ks) = walk_weight wt ks +ℤ wt k
 
--- z is the greatest sum of the first number of a node and the weight of a walk of at most m constraints from there to node i
+-- z is the greatest sum of the first number of a node and the weight of a walk of at most m constraints from there to
+-- node i
 pub record IsValueFrom (s : SystemData) (wt first : ℕ → ℤ) (m i : ℕ) (z : ℤ) : Type 0 where
   pub some : (from : ℕ) × (ks : List ℕ) × (length ks ≤ m) × Leads s from ks i × (first from +ℤ walk_weight wt ks ≡ z)
   pub most : (from : ℕ) (ks : List ℕ) → length ks ≤ m → Leads s from ks i → (first from +ℤ walk_weight wt ks) ≤ℤ z

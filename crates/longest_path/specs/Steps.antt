@@ -22,13 +22,16 @@ pub record IsRound (steps : List Step) (n : ℕ) (row : ℕ → ℤ) (i : ℕ) (
   pub brings : (p : ℕ) → p < n → (step steps p).to ≡ i → (row (step steps p).from +ℤ (step steps p).weight) ≤ℤ z
   pub some : (z ≡ base) ⊎ ((p : ℕ) × (p < n) × ((step steps p).to ≡ i) × (row (step steps p).from +ℤ (step steps p).weight ≡ z))
 
--- a row raised in place by the first m constraints of a system: no less than it was and than these bring it, and below all solutions that the row was below
+-- a row raised in place by the first m constraints of a system: no less than it was and than these bring it, and below
+-- all solutions that the row was below
 pub record IsRaised (s : SystemData) (period m : ℕ) (old new : ℕ → ℤ) : Type 0 where
   pub keeps : (i : ℕ) → i < s.nodes → old i ≤ℤ new i
   pub brings : (k : ℕ) → k < m → (old (arc s k).from +ℤ weights_at s period k) ≤ℤ new (arc s k).to
-  pub most : (t : ℕ → ℤ) → Solves s period t → ((i : ℕ) → i < s.nodes → old i ≤ℤ t i) → (i : ℕ) → i < s.nodes → new i ≤ℤ t i
+  pub most : (t : ℕ → ℤ) → Solves s period t → ((i : ℕ) → i < s.nodes → old i ≤ℤ t i) → (i : ℕ) → i < s.nodes
+      → new i ≤ℤ t i
 
 -- a row holds the numbers after so many rounds as there are nodes but one, and a further round changes nothing
 pub record IsSettled (s : SystemData) (period : ℕ) (first : ℕ → ℤ) (row : List ℤ) : Type 0 where
   pub is : (i : ℕ) → i < s.nodes → number row i ≡ value_from s (weights_at s period) first (s.nodes - 1) i
-  pub still : (i : ℕ) → i < s.nodes → value_from s (weights_at s period) first (suc (s.nodes - 1)) i ≡ value_from s (weights_at s period) first (s.nodes - 1) i
+  pub still : (i : ℕ) → i < s.nodes
+      → value_from s (weights_at s period) first (suc (s.nodes - 1)) i ≡ value_from s (weights_at s period) first (s.nodes - 1) i

@@ -23,7 +23,8 @@ pub record IsSystem (s : SystemData) : Type 0 where
   pub nodes : (1 ≤ s.nodes) × (s.nodes ≤ 124)
   pub count : length s.arcs ≤ 30000
   pub ends : (k : ℕ) → k < length s.arcs → ((arc s k).from < s.nodes) × ((arc s k).to < s.nodes)
-  pub sizes : (k : ℕ) → k < length s.arcs → (unsigned_abs (arc s k).w ≤ 10000000) × (unsigned_abs (arc s k).q ≤ 1000000000)
+  pub sizes : (k : ℕ) → k < length s.arcs
+      → (unsigned_abs (arc s k).w ≤ 10000000) × (unsigned_abs (arc s k).q ≤ 1000000000)
 
 -- the ticks t meet every constraint
 abbrev pub Solves : SystemData → ℕ → (ℕ → ℤ) → Type 0

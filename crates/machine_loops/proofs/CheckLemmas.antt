@@ -72,7 +72,8 @@ pub raised_none : (f : Scene) → raised 0 f ≡ f
 raised_none f = scene_same (raised 0 f) f (λ h. refl) (λ h. carry_same (f.carry h)) (λ i. hold_same (f.hold i)) (omega arith)
 
 -- a frame that is not the last is followed by the next one
-pub frame_next : (l : LineData) (period : ℕ) (frames : ℕ → Scene) (i : ℕ) → (i + 1 ≡ period → ⊥) → frame_after l period frames i ≡ frames (i + 1)
+pub frame_next : (l : LineData) (period : ℕ) (frames : ℕ → Scene) (i : ℕ) → (i + 1 ≡ period → ⊥)
+    → frame_after l period frames i ≡ frames (i + 1)
 frame_next l period frames i other = cond-false (i + 1 == period) (raised l.degree (frames 0)) (frames (i + 1)) (ne_eqb (i + 1) period other)
 
 -- up to frame i the frames go on, and it keeps the frame rules
@@ -81,7 +82,8 @@ pub record Going (l : LineData) (period : ℕ) (frames : ℕ → Scene) (orders 
   pub keeps : i < period → KeepsRules (layout_of l) (frames i)
   pub below : i < period → IsBelow (2 ^ 61 + i) (frames i)
 
-pub going_first : (l : LineData) (period : ℕ) (frames : ℕ → Scene) (orders : ℕ → Command) → KeepsRules (layout_of l) (frames 0)
+pub going_first : (l : LineData) (period : ℕ) (frames : ℕ → Scene) (orders : ℕ → Command)
+    → KeepsRules (layout_of l) (frames 0)
     → IsBelow (2 ^ 61) (frames 0) → Going l period frames orders 0
 going_first l period frames orders keeps below = record { before = λ j lt. absurd (omega arith); keeps = λ lt. keeps; below = λ lt. below }
 
@@ -94,7 +96,8 @@ going_on l period frames orders i line lt going leads =
     record {
       before = up_to_more (GoesOn l period frames orders) i going.before (record { keeps = going.keeps lt; leads = leads });
       keeps = λ more. step_keeps (layout_of l) (orders i) (frames i) (frames (i + 1)) (layout_is l line) (going.keeps lt) (next more);
-      below = λ more. subst (λ (b : ℕ). IsBelow b (frames (i + 1))) one (step_below (layout_of l) (orders i) (2 ^ 61 + i) (frames i) (frames (i + 1)) (going.below lt) (next more));
+      below = λ more. subst (λ (b : ℕ). IsBelow b (frames (i + 1))) one
+          (step_below (layout_of l) (orders i) (2 ^ 61 + i) (frames i) (frames (i + 1)) (going.below lt) (next more));
     }
 
 rest_below : (a b : ℕ) (r : Rest) → a ≤ b → RestBelow a r → RestBelow b r
@@ -102,7 +105,8 @@ rest_below a b Lowering le below = tt
 rest_below a b (Resting age) le below = omega arith
 rest_below a b Lifting le below = tt
 
-hold_below : (a b : ℕ) (o : Option Hold) → a ≤ b → IfSome o (λ x. RestBelow a x.rest) → IfSome o (λ x. RestBelow b x.rest)
+hold_below : (a b : ℕ) (o : Option Hold) → a ≤ b → IfSome o (λ x. RestBelow a x.rest)
+    → IfSome o (λ x. RestBelow b x.rest)
 hold_below a b None le below = tt
 hold_below a b (Some x) le below = rest_below a b x.rest le below
 

@@ -56,7 +56,8 @@ pub record Stays (l : Layout) (frames : ℕ → Scene) (t i c k age : ℕ) : Typ
   pub since : suc s + age ≡ t
   pub rests : (j : ℕ) → j < age → Rests (frames (suc s + j)) i c k j
 
-pub stays : (l : LineData) (period : ℕ) (frames : ℕ → Scene) (age t i c k : ℕ) → Unrolled l period frames → (frames 0).next ≤ c
+pub stays : (l : LineData) (period : ℕ) (frames : ℕ → Scene) (age t i c k : ℕ) → Unrolled l period frames
+    → (frames 0).next ≤ c
     → Comes (layout_of l) (frames t) (frames (suc t)) i c k age
     → Stays (layout_of l) frames (suc t) i c k age
 stays l period frames zero t i c k run new comes = record { s = t; came = comes; since = omega arith; rests = λ j lt. absurd (omega arith) }
@@ -69,7 +70,8 @@ stays l period frames (suc age) (suc t) i c k run new rests =
       came = before.came;
       since = omega arith;
       rests = λ j lt. ⊎_elim
-          (λ here. let e : suc t ≡ suc before.s + j = omega arith in subst (λ (n : ℕ). Rests (frames n) i c k j) e (subst (λ (n : ℕ). Rests (frames (suc t)) i c k n) (sym here) rests))
+          (λ here. let e : suc t ≡ suc before.s + j = omega arith in subst (λ (n : ℕ). Rests (frames n) i c k j) e
+          (subst (λ (n : ℕ). Rests (frames (suc t)) i c k n) (sym here) rests))
           (λ other. before.rests j (omega arith))
           (cases_eq j age);
     }
@@ -86,7 +88,12 @@ pub begin_stay : (l : LineData) (period : ℕ) (frames : ℕ → Scene) (t h : �
 begin_stay l period frames zero h y run new begins = let known = ((run.sound 0).carries h y begins.is).known in absurd (omega arith)
 begin_stay l period frames (suc t) h y run new begins =
     ⊎_elim
-    (λ now. record { age = now.age; stay = stays l period frames now.age t y.from y.carrier y.step run new now.comes; old_enough = now.old_enough; young_enough = now.young_enough })
+    (λ now. record {
+      age = now.age;
+      stay = stays l period frames now.age t y.from y.carrier y.step run new now.comes;
+      old_enough = now.old_enough;
+      young_enough = now.young_enough;
+    })
     (λ was.
     let more : was.x.elapsed + 1 ≡ y.elapsed = ap (λ (z : Carry). z.elapsed) was.is in
     let now = begins.new in
@@ -94,20 +101,23 @@ begin_stay l period frames (suc t) h y run new begins =
     ((run.passes t).carried h y begins.is)
 
 -- the next carrier never goes back
-pub next_rises : (l : LineData) (period : ℕ) (frames : ℕ → Scene) (n t : ℕ) → Unrolled l period frames → (frames t).next ≤ (frames (t + n)).next
+pub next_rises : (l : LineData) (period : ℕ) (frames : ℕ → Scene) (n t : ℕ) → Unrolled l period frames
+    → (frames t).next ≤ (frames (t + n)).next
 next_rises l period frames zero t run = let e : (frames (t + 0)).next ≡ (frames t).next = ap (λ (n : ℕ). (frames n).next) (omega arith) in omega arith
 next_rises l period frames (suc n) t run =
     let below = next_rises l period frames n t run in
     let e : (frames (t + suc n)).next ≡ (frames (suc (t + n))).next = ap (λ (n : ℕ). (frames n).next) (omega arith) in
     ⊎_elim (λ same. omega arith) (λ more. omega arith) (run.passes (t + n)).next
 
-pub rises : (l : LineData) (period : ℕ) (frames : ℕ → Scene) (s t : ℕ) → Unrolled l period frames → s ≤ t → (frames s).next ≤ (frames t).next
+pub rises : (l : LineData) (period : ℕ) (frames : ℕ → Scene) (s t : ℕ) → Unrolled l period frames → s ≤ t
+    → (frames s).next ≤ (frames t).next
 rises l period frames s t run le =
     let e : s + (t - s) ≡ t = omega arith in
     subst (λ (n : ℕ). (frames s).next ≤ (frames n).next) e (next_rises l period frames (t - s) s run)
 
 -- a carrier is put on once
-pub put_once : (l : LineData) (period : ℕ) (frames : ℕ → Scene) (s s' c : ℕ) → Unrolled l period frames → (frames s).next ≡ c
+pub put_once : (l : LineData) (period : ℕ) (frames : ℕ → Scene) (s s' c : ℕ) → Unrolled l period frames
+    → (frames s).next ≡ c
     → (frames (suc s)).next ≡ c + 1 → (frames s').next ≡ c → (frames (suc s')).next ≡ c + 1 → s ≡ s'
 put_once l period frames s s' c run before after before' after' =
     ⊎_elim (λ same. same)
@@ -128,7 +138,8 @@ pub record Brought (l : Layout) (frames : ℕ → Scene) (s i c k : ℕ) : Type 
   pub tank : y.to ≡ i
   pub long : u + length_of l y ≡ suc s
 
-pub brought : (l : LineData) (period : ℕ) (frames : ℕ → Scene) (s i c k : ℕ) → Unrolled l period frames → (frames 0).next ≤ c
+pub brought : (l : LineData) (period : ℕ) (frames : ℕ → Scene) (s i c k : ℕ) → Unrolled l period frames
+    → (frames 0).next ≤ c
     → SetsDown (layout_of l) (frames s) i c k → Brought (layout_of l) frames s i c k
 brought l period frames s i c k run new set =
     let carrier = set.carrier in
@@ -150,7 +161,8 @@ brought l period frames s i c k run new set =
 -- a carrier doesn't begin the move of step k twice
 abbrev BeginsOnce : LineData → (ℕ → Scene) → ℕ → Type 0
 BeginsOnce l frames k =
-    (t t' h h' : ℕ) (y y' : Carry) → (frames 0).next ≤ y.carrier → Begins frames t h y → Begins frames t' h' y' → y.carrier ≡ y'.carrier → y.step ≡ k → y'.step ≡ k → t < t' → ⊥
+    (t t' h h' : ℕ) (y y' : Carry) → (frames 0).next ≤ y.carrier → Begins frames t h y → Begins frames t' h' y'
+    → y.carrier ≡ y'.carrier → y.step ≡ k → y'.step ≡ k → t < t' → ⊥
 
 begins_same : (l : LineData) (frames : ℕ → Scene) (k t t' h h' : ℕ) (y y' : Carry) → BeginsOnce l frames k
     → (frames 0).next ≤ y.carrier → Begins frames t h y → Begins frames t' h' y' → y.carrier ≡ y'.carrier → y.step ≡ k
@@ -172,7 +184,8 @@ same_begin l period frames t t' h h' y y' run begins begins' carrier same =
     (hoist, some_same y y' (sym begins.is ∙ ap (λ (n : ℕ). (frames t).carry n) hoist ∙ is'))
 
 -- nor does it come to rest twice at one stage
-came_once : (l : LineData) (period : ℕ) (frames : ℕ → Scene) (k s s' i i' c : ℕ) → Unrolled l period frames → (frames 0).next ≤ c
+came_once : (l : LineData) (period : ℕ) (frames : ℕ → Scene) (k s s' i i' c : ℕ) → Unrolled l period frames
+    → (frames 0).next ≤ c
     → ((j : ℕ) → j + 1 ≡ k → BeginsOnce l frames j)
     → Came (layout_of l) frames s i c k → Came (layout_of l) frames s' i' c k → s ≡ s'
 came_once l period frames k s s' i i' c run new once came came' =
@@ -185,7 +198,8 @@ came_once l period frames k s s' i i' c run new once came came' =
     let first = b.carrier in
     let step = b.step in
     let step' = b'.step in
-    let u : b.u ≡ b'.u = begins_same l frames b.y.step b.u b'.u b.h b'.h b.y b'.y (once b.y.step b.step) (omega arith) b.begins b'.begins carrier refl (omega arith) in
+    let u : b.u ≡ b'.u = begins_same l frames b.y.step b.u b'.u b.h b'.h b.y b'.y (once b.y.step b.step)
+    (omega arith) b.begins b'.begins carrier refl (omega arith) in
     let y : b.y ≡ b'.y = (same_begin l period frames b.u b'.u b.h b'.h b.y b'.y run b.begins b'.begins carrier u).1 in
     let long : length_of (layout_of l) b.y ≡ length_of (layout_of l) b'.y = ap (length_of (layout_of l)) y in
     let ends = b.long in
@@ -207,17 +221,22 @@ begins_once l period frames k run once = λ t t' h h' y y' new begins begins' ca
     let next = begin_stay l period frames t' h' y' run (omega arith) begins' in
     let came : Came (layout_of l) frames stay.s y.from y.carrier k = subst (λ (j : ℕ). Came (layout_of l) frames stay.s y.from y.carrier j) step stay.came in
     let came' : Came (layout_of l) frames next.stay.s y'.from y.carrier k =
-    subst (λ (n : ℕ). Came (layout_of l) frames next.stay.s y'.from n k) (sym carrier) (subst (λ (j : ℕ). Came (layout_of l) frames next.stay.s y'.from y'.carrier j) step' next.stay.came) in
+    subst (λ (n : ℕ). Came (layout_of l) frames next.stay.s y'.from n k) (sym carrier)
+    (subst (λ (j : ℕ). Came (layout_of l) frames next.stay.s y'.from y'.carrier j) step' next.stay.came) in
     let same : stay.s ≡ next.stay.s = came_once l period frames k stay.s next.stay.s y.from y'.from y.carrier run new once came came' in
     let since = stay.since in
     let since' = next.stay.since in
     let here : suc next.stay.s + age ≡ t = omega arith in
-    let rests : Rests (frames t) y'.from y'.carrier y'.step age = subst (λ (n : ℕ). Rests (frames n) y'.from y'.carrier y'.step age) here (next.stay.rests age (omega arith)) in
+    let rests : Rests (frames t) y'.from y'.carrier y'.step age = subst
+    (λ (n : ℕ). Rests (frames n) y'.from y'.carrier y'.step age) here (next.stay.rests age (omega arith)) in
     (run.sound t).not_both y'.from y'.carrier y'.step age h y rests begins.is carrier
 
-never_twice : (l : LineData) (period : ℕ) (frames : ℕ → Scene) (k : ℕ) → Unrolled l period frames → BeginsOnce l frames k
+never_twice : (l : LineData) (period : ℕ) (frames : ℕ → Scene) (k : ℕ) → Unrolled l period frames
+    → BeginsOnce l frames k
 never_twice l period frames zero run = begins_once l period frames zero run (λ j e. absurd (omega arith))
-never_twice l period frames (suc k) run = begins_once l period frames (suc k) run (λ j e. let same : k ≡ j = omega arith in subst (λ (n : ℕ). BeginsOnce l frames n) same (never_twice l period frames k run))
+never_twice l period frames (suc k) run = begins_once l period frames (suc k) run
+    (λ j e. let same : k ≡ j = omega arith in subst (λ (n : ℕ). BeginsOnce l frames n) same
+    (never_twice l period frames k run))
 
 -- what a carrier begins by one step, it begins once, by one hoist
 pub record SameBegin (t t' h h' : ℕ) (y y' : Carry) : Type 0 where
@@ -225,7 +244,8 @@ pub record SameBegin (t t' h h' : ℕ) (y y' : Carry) : Type 0 where
   pub hoist : h ≡ h'
   pub carry : y ≡ y'
 
-pub one_begin : (l : LineData) (period : ℕ) (frames : ℕ → Scene) (t t' h h' : ℕ) (y y' : Carry) → Unrolled l period frames
+pub one_begin : (l : LineData) (period : ℕ) (frames : ℕ → Scene) (t t' h h' : ℕ) (y y' : Carry)
+    → Unrolled l period frames
     → (frames 0).next ≤ y.carrier → Begins frames t h y → Begins frames t' h' y'
     → y.carrier ≡ y'.carrier → y.step ≡ y'.step → SameBegin t t' h h' y y'
 one_begin l period frames t t' h h' y y' run new begins begins' carrier step =

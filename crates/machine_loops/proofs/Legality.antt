@@ -24,11 +24,13 @@ use Rattle.machine_loops.proofs.History.{rises}
 use Rattle.machine_loops.proofs.Shown.{IsShown, carry_of, ticks, carries, Rested, put_before, rested_first, rested_next, rested_last}
 
 -- the machine's motions are those of the timetable
-pub ticks_are : (l : LineData) (frames : ℕ → Scene) (p : Timetable) (c k : ℕ) → ticks l frames p c k ≡ duration (motion l p c k)
+pub ticks_are : (l : LineData) (frames : ℕ → Scene) (p : Timetable) (c k : ℕ)
+    → ticks l frames p c k ≡ duration (motion l p c k)
 unfolding move_ticks
 ticks_are l frames p c k = refl
 
-places_are : (l : LineData) (p : Timetable) (c k u : ℕ) → move_place (layout_of l) k (p.tank c k) (p.tank c (k + 1)) u ≡ place (motion l p c k) u
+places_are : (l : LineData) (p : Timetable) (c k u : ℕ)
+    → move_place (layout_of l) k (p.tank c k) (p.tank c (k + 1)) u ≡ place (motion l p c k) u
 unfolding move_place
 places_are l p c k u = refl
 
@@ -37,10 +39,12 @@ pub begin_next : (l : LineData) (p : Timetable) (c k : ℕ)
     → hold_begin l p c (k + 1) ≡ p.start c k + duration (motion l p c k) - (stage l (k + 1)).lower
 begin_next l p c k =
     let e : k + 1 - 1 ≡ k = omega arith in
-    ap (λ (b : Bool). if b then p.put c else p.start c (k + 1 - 1) + duration (motion l p c (k + 1 - 1)) - (stage l (k + 1)).lower) (ne_eqb (k + 1) 0 (λ z. omega arith))
+    ap (λ (b : Bool). if b then p.put c else p.start c (k + 1 - 1) + duration
+    (motion l p c (k + 1 - 1)) - (stage l (k + 1)).lower) (ne_eqb (k + 1) 0 (λ z. omega arith))
     ∙ ap (λ (j : ℕ). p.start c j + duration (motion l p c j) - (stage l (k + 1)).lower) e
 
-end_other : (l : LineData) (p : Timetable) (c k : ℕ) → k < last_stage l → hold_end l p c k ≡ p.start c k + (stage l k).lift
+end_other : (l : LineData) (p : Timetable) (c k : ℕ) → k < last_stage l
+    → hold_end l p c k ≡ p.start c k + (stage l k).lift
 end_other l p c k lt = ap (λ (b : Bool). if b then p.off c else p.start c k + (stage l k).lift) (ne_eqb k (last_stage l) (λ e. omega arith))
 
 pub end_last : (l : LineData) (p : Timetable) (c : ℕ) → hold_end l p c (last_stage l) ≡ p.off c
@@ -48,10 +52,12 @@ end_last l p c = ap (λ (b : Bool). if b then p.off c else p.start c (last_stage
 
 -- the least ages
 least_last : (l : LineData) → 0 < last_stage l → least_age l (last_stage l) ≡ l.unload
-least_last l some = cond-false (last_stage l == 0) _ _ (ne_eqb (last_stage l) 0 (λ e. omega arith)) ∙ cond-true (last_stage l == last_stage l) _ _ (eq-eqb (last_stage l) (last_stage l) refl)
+least_last l some = cond-false (last_stage l == 0) _ _ (ne_eqb (last_stage l) 0 (λ e. omega arith))
+    ∙ cond-true (last_stage l == last_stage l) _ _ (eq-eqb (last_stage l) (last_stage l) refl)
 
 least_inner : (l : LineData) (k : ℕ) → k + 1 < last_stage l → least_age l (k + 1) ≡ (stage l (k + 1)).min
-least_inner l k lt = cond-false (k + 1 == 0) _ _ (ne_eqb (k + 1) 0 (λ e. omega arith)) ∙ cond-false (k + 1 == last_stage l) _ _ (ne_eqb (k + 1) (last_stage l) (λ e. omega arith))
+least_inner l k lt = cond-false (k + 1 == 0) _ _ (ne_eqb (k + 1) 0 (λ e. omega arith))
+    ∙ cond-false (k + 1 == last_stage l) _ _ (ne_eqb (k + 1) (last_stage l) (λ e. omega arith))
 
 -- tick t, some periods later
 later_frame : (l : LineData) (period : ℕ) (frames : ℕ → Scene) (p : Timetable) (z t : ℕ) → IsShown l period frames p
@@ -68,7 +74,8 @@ record CarriedBy (l : LineData) (frames : ℕ → Scene) (h c k z t : ℕ) : Typ
   carrier : y.carrier ≡ (frames 0).next + c + z * l.degree
   step : y.step ≡ k
 
-carried_by : (l : LineData) (period : ℕ) (frames : ℕ → Scene) (p : Timetable) (h c k z t : ℕ) → IsShown l period frames p
+carried_by : (l : LineData) (period : ℕ) (frames : ℕ → Scene) (p : Timetable) (h c k z t : ℕ)
+    → IsShown l period frames p
     → CarriesAt l p h c k z t → CarriedBy l frames h c k z t
 carried_by l period frames p h c k z t shown at =
     let d = z * l.degree in
@@ -80,7 +87,8 @@ carried_by l period frames p h c k z t shown at =
     let step = at.move.1 in
     let now = carries l period frames p c k (t - z * period - p.start c k) shown at.move.0 (omega arith) (omega arith) in
     let sum : p.start c k + (t - z * period - p.start c k) ≡ t - z * period = omega arith in
-    let here : (frames (t - z * period)).carry h ≡ Some y = ap (frames (t - z * period)).carry (sym at.hoist) ∙ ap (λ (n : ℕ). (frames n).carry (p.hoist c k)) (sym sum) ∙ now in
+    let here : (frames (t - z * period)).carry h ≡ Some y = ap (frames (t - z * period)).carry (sym at.hoist)
+    ∙ ap (λ (n : ℕ). (frames n).carry (p.hoist c k)) (sym sum) ∙ now in
     record {
       y = raised_carry d y;
       is = ap (λ (f : Scene). f.carry h) (later_frame l period frames p z t shown (omega arith)) ∙ ap (option_map (raised_carry d)) here;
@@ -94,8 +102,10 @@ same_copy n r c c' z z' lt lt' e =
     ⊎_elim
     (λ same. let m : z * r ≡ z' * r = ap (λ (q : ℕ). q * r) same in (omega arith, same))
     (λ other. ⊎_elim
-    (λ less. absurd (let m : (z + 1) * r ≤ z' * r = mul-le (z + 1) r z' r (omega arith) (omega arith) in let s : (z + 1) * r ≡ z * r + r = ring_one z r in omega arith))
-    (λ more. absurd (let m : (z' + 1) * r ≤ z * r = mul-le (z' + 1) r z r (omega arith) (omega arith) in let s : (z' + 1) * r ≡ z' * r + r = ring_one z' r in omega arith))
+    (λ less. absurd (let m : (z + 1) * r ≤ z' * r = mul-le (z + 1) r z' r (omega arith)
+    (omega arith) in let s : (z + 1) * r ≡ z * r + r = ring_one z r in omega arith))
+    (λ more. absurd (let m : (z' + 1) * r ≤ z * r = mul-le (z' + 1) r z r (omega arith)
+    (omega arith) in let s : (z' + 1) * r ≡ z' * r + r = ring_one z' r in omega arith))
     other)
     (cases_order z z')
 
@@ -134,7 +144,8 @@ track l period frames p shown = record {
 }
 
 -- a hoist follows its move to the last tick
-follows : (l : LineData) (period : ℕ) (frames : ℕ → Scene) (p : Timetable) (c k u : ℕ) → IsShown l period frames p → c < l.degree
+follows : (l : LineData) (period : ℕ) (frames : ℕ → Scene) (p : Timetable) (c k u : ℕ) → IsShown l period frames p
+    → c < l.degree
     → k < last_stage l → u ≤ ticks l frames p c k
     → (frames (p.start c k + u)).at (p.hoist c k) ≡ move_place (layout_of l) k (p.tank c k) (p.tank c (k + 1)) u
 follows l period frames p c k zero shown there step le =
@@ -145,7 +156,8 @@ follows l period frames p c k (suc u) shown there step le =
     let e : p.start c k + suc u ≡ suc (p.start c k + u) = omega arith in
     let more : u + 1 ≡ suc u = omega arith in
     ap (λ (n : ℕ). (frames n).at (p.hoist c k)) e
-    ∙ (shown.run.passes (p.start c k + u)).along (p.hoist c k) (record (carry_of frames p c k) { elapsed = u }) (carries l period frames p c k u shown there step (omega arith))
+    ∙ (shown.run.passes (p.start c k + u)).along (p.hoist c k) (record (carry_of frames p c k) { elapsed = u })
+    (carries l period frames p c k u shown there step (omega arith))
     ∙ ap (move_place (layout_of l) k (p.tank c k) (p.tank c (k + 1))) more
 
 -- the move is one of the line
@@ -182,43 +194,54 @@ pub record HeldBy (frames : ℕ → Scene) (i c k t : ℕ) : Type 0 where
   pub r : Rest
   pub is : (frames t).hold i ≡ Some (hold_of c k r)
 
-lowering : (l : LineData) (period : ℕ) (frames : ℕ → Scene) (p : Timetable) (c k t : ℕ) → IsShown l period frames p → c < l.degree → k < last_stage l
-    → p.start c k + ticks l frames p c k ≤ t + (stage l (k + 1)).lower → t < p.start c k + ticks l frames p c k → HeldBy frames (p.tank c (k + 1)) ((frames 0).next + c) (k + 1) t
+lowering : (l : LineData) (period : ℕ) (frames : ℕ → Scene) (p : Timetable) (c k t : ℕ) → IsShown l period frames p
+    → c < l.degree → k < last_stage l
+    → p.start c k + ticks l frames p c k ≤ t + (stage l (k + 1)).lower → t < p.start c k + ticks l frames p c k
+    → HeldBy frames (p.tank c (k + 1)) ((frames 0).next + c) (k + 1) t
 lowering l period frames p c k t shown there step from before =
     let u = t - p.start c k in
     let long = ticks_long (layout_of l) k (p.tank c k) (p.tank c (k + 1)) in
     let e : p.start c k + u ≡ t = omega arith in
-    let is : (frames t).carry (p.hoist c k) ≡ Some (record (carry_of frames p c k) { elapsed = u }) = ap (λ (n : ℕ). (frames n).carry (p.hoist c k)) (sym e) ∙ carries l period frames p c k u shown there step (omega arith) in
+    let is : (frames t).carry (p.hoist c k) ≡ Some (record (carry_of frames p c k) { elapsed = u }) = ap
+    (λ (n : ℕ). (frames n).carry (p.hoist c k)) (sym e) ∙ carries l period frames p c k u shown there step
+    (omega arith) in
     record { r = Lowering; is = ((shown.run.sound t).carries (p.hoist c k) _ is).lowering (omega arith) }
 
-lifting : (l : LineData) (period : ℕ) (frames : ℕ → Scene) (p : Timetable) (c k t : ℕ) → IsShown l period frames p → c < l.degree → k < last_stage l
+lifting : (l : LineData) (period : ℕ) (frames : ℕ → Scene) (p : Timetable) (c k t : ℕ) → IsShown l period frames p
+    → c < l.degree → k < last_stage l
     → p.start c k ≤ t → t < p.start c k + (stage l k).lift → HeldBy frames (p.tank c k) ((frames 0).next + c) k t
 lifting l period frames p c k t shown there step from before =
     let u = t - p.start c k in
     let long = ticks_long (layout_of l) k (p.tank c k) (p.tank c (k + 1)) in
     let e : p.start c k + u ≡ t = omega arith in
-    let is : (frames t).carry (p.hoist c k) ≡ Some (record (carry_of frames p c k) { elapsed = u }) = ap (λ (n : ℕ). (frames n).carry (p.hoist c k)) (sym e) ∙ carries l period frames p c k u shown there step (omega arith) in
+    let is : (frames t).carry (p.hoist c k) ≡ Some (record (carry_of frames p c k) { elapsed = u }) = ap
+    (λ (n : ℕ). (frames n).carry (p.hoist c k)) (sym e) ∙ carries l period frames p c k u shown there step
+    (omega arith) in
     record { r = Lifting; is = ((shown.run.sound t).carries (p.hoist c k) _ is).lifting (omega arith) }
 
-resting : (l : Layout) (frames : ℕ → Scene) (i c k a b t : ℕ) → Rested l frames i c k a b → a ≤ t → t < b → HeldBy frames i c k t
+resting : (l : Layout) (frames : ℕ → Scene) (i c k a b t : ℕ) → Rested l frames i c k a b → a ≤ t → t < b
+    → HeldBy frames i c k t
 resting l frames i c k a b t rested from before =
     let until = rested.until in
     let e : a + (t - a) ≡ t = omega arith in
     record { r = Resting (t - a); is = subst (λ (n : ℕ). Rests (frames n) i c k (t - a)) e (rested.rests (t - a) (omega arith)) }
 
-held_first : (l : LineData) (period : ℕ) (frames : ℕ → Scene) (p : Timetable) (c t : ℕ) → IsShown l period frames p → c < l.degree
+held_first : (l : LineData) (period : ℕ) (frames : ℕ → Scene) (p : Timetable) (c t : ℕ) → IsShown l period frames p
+    → c < l.degree
     → hold_begin l p c 0 ≤ t → t < hold_end l p c 0 → HeldBy frames (p.tank c 0) ((frames 0).next + c) 0 t
 held_first l period frames p c t shown there from before =
     let some = shown.run.layout.last.0 in
     let end = end_other l p c 0 (omega arith) in
     ⊎_elim
-    (λ lt. resting (layout_of l) frames (p.tank c 0) ((frames 0).next + c) 0 (p.put c) (p.start c 0) t (rested_first l period frames p c shown there (omega arith)) from lt)
+    (λ lt. resting (layout_of l) frames (p.tank c 0) ((frames 0).next + c) 0 (p.put c) (p.start c 0) t
+    (rested_first l period frames p c shown there (omega arith)) from lt)
     (λ le. lifting l period frames p c 0 t shown there (omega arith) le (omega arith))
     (cases_lt t (p.start c 0))
 
 held_next : (l : LineData) (period : ℕ) (frames : ℕ → Scene) (p : Timetable) (c k t : ℕ) → IsShown l period frames p
     → c < l.degree → k + 1 < last_stage l
-    → hold_begin l p c (k + 1) ≤ t → t < hold_end l p c (k + 1) → HeldBy frames (p.tank c (k + 1)) ((frames 0).next + c) (k + 1) t
+    → hold_begin l p c (k + 1) ≤ t → t < hold_end l p c (k + 1)
+    → HeldBy frames (p.tank c (k + 1)) ((frames 0).next + c) (k + 1) t
 held_next l period frames p c k t shown there step from before =
     let begin = begin_next l p c k in
     let end = end_other l p c (k + 1) step in
@@ -226,7 +249,9 @@ held_next l period frames p c k t shown there step from before =
     ⊎_elim
     (λ lt. lowering l period frames p c k t shown there (omega arith) (omega arith) lt)
     (λ le. ⊎_elim
-    (λ lt. resting (layout_of l) frames (p.tank c (k + 1)) ((frames 0).next + c) (k + 1) (p.start c k + ticks l frames p c k) (p.start c (k + 1)) t (rested_next l period frames p c k shown there step).rested le lt)
+    (λ lt. resting (layout_of l) frames (p.tank c (k + 1)) ((frames 0).next + c) (k + 1)
+    (p.start c k + ticks l frames p c k) (p.start c (k + 1)) t
+    (rested_next l period frames p c k shown there step).rested le lt)
     (λ past. lifting l period frames p c (k + 1) t shown there step past (omega arith))
     (cases_lt t (p.start c (k + 1))))
     (cases_lt t (p.start c k + ticks l frames p c k))
@@ -240,14 +265,19 @@ held_last l period frames p c k t shown there last from before =
     ⊎_elim
     (λ lt. lowering l period frames p c k t shown there (omega arith) (omega arith) lt)
     (λ le. subst (λ (j : ℕ). HeldBy frames (p.tank c j) ((frames 0).next + c) j t) (sym last)
-    (resting (layout_of l) frames (p.tank c (last_stage l)) ((frames 0).next + c) (last_stage l) (p.start c k + ticks l frames p c k) (p.off c) t (rested_last l period frames p c k shown there last) le before))
+    (resting (layout_of l) frames (p.tank c (last_stage l)) ((frames 0).next + c) (last_stage l)
+    (p.start c k + ticks l frames p c k) (p.off c) t (rested_last l period frames p c k shown there last) le
+    before))
     (cases_lt t (p.start c k + ticks l frames p c k))
 
-pub held : (l : LineData) (period : ℕ) (frames : ℕ → Scene) (p : Timetable) (c k t : ℕ) → IsShown l period frames p → c < l.degree → k ≤ last_stage l
+pub held : (l : LineData) (period : ℕ) (frames : ℕ → Scene) (p : Timetable) (c k t : ℕ) → IsShown l period frames p
+    → c < l.degree → k ≤ last_stage l
     → hold_begin l p c k ≤ t → t < hold_end l p c k → HeldBy frames (p.tank c k) ((frames 0).next + c) k t
 held l period frames p c k t shown there le =
     ⊎_elim
-    (λ first. subst (λ (j : ℕ). hold_begin l p c j ≤ t → t < hold_end l p c j → HeldBy frames (p.tank c j) ((frames 0).next + c) j t) (sym first) (held_first l period frames p c t shown there))
+    (λ first. subst (λ (j : ℕ). hold_begin l p c j ≤ t → t < hold_end l p c j
+    → HeldBy frames (p.tank c j) ((frames 0).next + c) j t) (sym first)
+    (held_first l period frames p c t shown there))
     (λ above.
     let e : k - 1 + 1 ≡ k = omega arith in
     ⊎_elim
@@ -266,7 +296,8 @@ record HeldLater (l : LineData) (frames : ℕ → Scene) (i c k z t : ℕ) : Typ
   carrier : x.carrier ≡ (frames 0).next + c + z * l.degree
   stage : x.stage ≡ k
 
-held_later : (l : LineData) (period : ℕ) (frames : ℕ → Scene) (p : Timetable) (i c k z t : ℕ) → IsShown l period frames p
+held_later : (l : LineData) (period : ℕ) (frames : ℕ → Scene) (p : Timetable) (i c k z t : ℕ)
+    → IsShown l period frames p
     → HoldsAt l p i c k z t → HeldLater l frames i c k z t
 held_later l period frames p i c k z t shown at =
     let d = z * l.degree in
@@ -290,7 +321,8 @@ contains_from i xs e =
     let same : x ≡ i = eqb-true x i hit in
     (k, lt, subst (λ (y : ℕ). get_or xs k y ≡ y) same at)
 
-routed : (l : LineData) (period : ℕ) (frames : ℕ → Scene) (p : Timetable) (c k : ℕ) → IsShown l period frames p → IsVisit l c k
+routed : (l : LineData) (period : ℕ) (frames : ℕ → Scene) (p : Timetable) (c k : ℕ) → IsShown l period frames p
+    → IsVisit l c k
     → Serves l (p.tank c k) k
 routed l period frames p c k shown v =
     let lt = v.1 in
@@ -299,7 +331,8 @@ routed l period frames p c k shown v =
     (λ below. contains_from (p.tank c k) (stage l k).tanks (on_line l period frames p c k shown v.0 below).from)
     (λ last.
     let e : k - 1 + 1 ≡ k = omega arith in
-    subst (λ (j : ℕ). Serves l (p.tank c j) j) e (contains_from (p.tank c (k - 1 + 1)) (stage l (k - 1 + 1)).tanks (on_line l period frames p c (k - 1) shown v.0 (omega arith)).to))
+    subst (λ (j : ℕ). Serves l (p.tank c j) j) e (contains_from (p.tank c (k - 1 + 1)) (stage l (k - 1 + 1)).tanks
+    (on_line l period frames p c (k - 1) shown v.0 (omega arith)).to))
     (cases_lt k (last_stage l))
 
 some_same_bound : (o : Option ℕ) (a b b' : ℕ) → b ≡ b' → IfSome o (λ m. a ≤ b + m) → IfSome o (λ m. a ≤ b' + m)
@@ -321,7 +354,9 @@ windows l period frames p shown =
       greatest = λ c k v.
           let lt = v.1 in
           let young = (rested_next l period frames p c k shown v.0 (omega arith)).young_enough in
-          some_same_bound (stage l (k + 1)).max (p.start c (k + 1)) (p.start c k + ticks l frames p c k) (p.start c k + duration (motion l p c k)) (ap (λ (d : ℕ). p.start c k + d) (ticks_are l frames p c k)) young;
+          some_same_bound (stage l (k + 1)).max (p.start c (k + 1)) (p.start c k + ticks l frames p c k)
+          (p.start c k + duration (motion l p c k)) (ap (λ (d : ℕ). p.start c k + d)
+          (ticks_are l frames p c k)) young;
       load = λ c lt.
           let rested = rested_first l period frames p c shown lt (omega arith) in
           let until = rested.until in
@@ -337,7 +372,8 @@ windows l period frames p shown =
           omega arith;
     }
 
-numbered : (l : LineData) (period : ℕ) (frames : ℕ → Scene) (p : Timetable) → IsShown l period frames p → AreNumbered l p
+numbered : (l : LineData) (period : ℕ) (frames : ℕ → Scene) (p : Timetable) → IsShown l period frames p
+    → AreNumbered l p
 numbered l period frames p shown =
     let n = (frames 0).next in
     let some = shown.run.degree in
@@ -347,7 +383,8 @@ numbered l period frames p shown =
           let b = put_before frames (n + (c + 1)) (p.put (c + 1)) (shown.shows.put (c + 1) lt) in
           let after = a.after in
           let before = b.after in
-          ⊎_elim (λ less. less) (λ le. absurd (let up = rises l period frames (p.put (c + 1)) (p.put c) shown.run le in omega arith)) (cases_lt (p.put c) (p.put (c + 1)));
+          ⊎_elim (λ less. less) (λ le. absurd (let up = rises l period frames (p.put (c + 1))
+          (p.put c) shown.run le in omega arith)) (cases_lt (p.put c) (p.put (c + 1)));
       around =
           let c = l.degree - 1 in
           let a = put_before frames (n + c) (p.put c) (shown.shows.put c (omega arith)) in
@@ -355,7 +392,8 @@ numbered l period frames p shown =
           let last = a.after in
           let first = b.after in
           let e = shown.shows.period in
-          let again : (frames (p.put 0 + 1 * period)).next ≡ (frames (p.put 0)).next + 1 * l.degree = ap (λ (f : Scene). f.next) (shown.run.again 1 (p.put 0)) in
+          let again : (frames (p.put 0 + 1 * period)).next ≡ (frames (p.put 0)).next + 1 * l.degree = ap
+          (λ (f : Scene). f.next) (shown.run.again 1 (p.put 0)) in
           let one : 1 * period ≡ period = one-mul period in
           let one' : 1 * l.degree ≡ l.degree = one-mul l.degree in
           ⊎_elim (λ less. less)

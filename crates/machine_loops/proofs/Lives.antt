@@ -20,12 +20,18 @@ pub record Put (frames : ℕ → Scene) (c n : ℕ) : Type 0 where
   pub before : (frames s).next ≡ c
   pub after : (frames (suc s)).next ≡ c + 1
 
-pub put_found : (l : LineData) (period : ℕ) (frames : ℕ → Scene) (n c : ℕ) → Unrolled l period frames → (frames 0).next ≤ c
+pub put_found : (l : LineData) (period : ℕ) (frames : ℕ → Scene) (n c : ℕ) → Unrolled l period frames
+    → (frames 0).next ≤ c
     → c < (frames n).next → Put frames c n
 put_found l period frames zero c run new lt = absurd (omega arith)
 put_found l period frames (suc n) c run new lt =
     ⊎_elim
-    (λ earlier. let put = put_found l period frames n c run new earlier in let early = put.early in record { s = put.s; early = omega arith; before = put.before; after = put.after })
+    (λ earlier. let put = put_found l period frames n c run new earlier in let early = put.early in record {
+      s = put.s;
+      early = omega arith;
+      before = put.before;
+      after = put.after;
+    })
     (λ le. ⊎_elim
     (λ same. absurd (omega arith))
     (λ more. record { s = n; early = omega arith; before = omega arith; after = omega arith })
@@ -40,7 +46,8 @@ record Off (frames : ℕ → Scene) (c t n : ℕ) : Type 0 where
   before : IsInLine (frames s) c
   after : IsInLine (frames (suc s)) c → ⊥
 
-off_or_in : (l : LineData) (period : ℕ) (frames : ℕ → Scene) (n t c : ℕ) → Unrolled l period frames → IsInLine (frames t) c
+off_or_in : (l : LineData) (period : ℕ) (frames : ℕ → Scene) (n t c : ℕ) → Unrolled l period frames
+    → IsInLine (frames t) c
     → Off frames c t n ⊎ ((j : ℕ) → j ≤ n → IsInLine (frames (t + j)) c)
 off_or_in l period frames zero t c run there = inr (λ j le. let e : t ≡ t + j = omega arith in subst (λ (x : ℕ). IsInLine (frames x) c) e there)
 off_or_in l period frames (suc n) t c run there =
@@ -79,15 +86,19 @@ never_stays l period frames t c run all =
     let whole : (m - q + q) * period ≡ m * period = ap (λ (x : ℕ). x * period) parts in
     let e : t + j + q * period ≡ end = omega arith in
     let later : raised (q * l.degree) (frames (t + j)) ≡ frames end = sym (run.again q (t + j)) ∙ ap frames e in
-    placed (layout_of l) (frames end) (c + q * l.degree) run.layout (run.sound end) (subst (λ (f : Scene). IsInLine f (c + q * l.degree)) later (raised_in (q * l.degree) (frames (t + j)) c (all j some))))
+    placed (layout_of l) (frames end) (c + q * l.degree) run.layout (run.sound end)
+    (subst (λ (f : Scene). IsInLine f (c + q * l.degree)) later
+    (raised_in (q * l.degree) (frames (t + j)) c (all j some))))
 
 -- how many ticks a carrier is in the line at most
 abbrev pub longest_stay : LineData → ℕ → ℕ
 longest_stay l period = place_count (layout_of l) * period
 
-off_found : (l : LineData) (period : ℕ) (frames : ℕ → Scene) (t c : ℕ) → Unrolled l period frames → IsInLine (frames t) c
+off_found : (l : LineData) (period : ℕ) (frames : ℕ → Scene) (t c : ℕ) → Unrolled l period frames
+    → IsInLine (frames t) c
     → Off frames c t (longest_stay l period)
-off_found l period frames t c run there = ⊎_elim (λ off. off) (λ all. absurd (never_stays l period frames t c run all)) (off_or_in l period frames (longest_stay l period) t c run there)
+off_found l period frames t c run there = ⊎_elim (λ off. off) (λ all. absurd (never_stays l period frames t c run all))
+    (off_or_in l period frames (longest_stay l period) t c run there)
 
 -- a move of step k of carrier c that begins before tick `end`
 pub record Begun (frames : ℕ → Scene) (c k end : ℕ) : Type 0 where
@@ -113,13 +124,15 @@ begun_before l period frames t i c k age end run new stay lt =
     (λ put. absurd (let e = put.stage in omega arith))
     stay.came
 
-begun_earlier : (l : LineData) (period : ℕ) (frames : ℕ → Scene) (c k end : ℕ) → Unrolled l period frames → (frames 0).next ≤ c
+begun_earlier : (l : LineData) (period : ℕ) (frames : ℕ → Scene) (c k end : ℕ) → Unrolled l period frames
+    → (frames 0).next ≤ c
     → Begun frames c (k + 1) end → Begun frames c k end
 begun_earlier l period frames c k end run new next =
     let carrier = next.carrier in
     let b = begin_stay l period frames next.u next.h next.y run (omega arith) next.begins in
     let stay : Stays (layout_of l) frames next.u next.y.from c (k + 1) b.age =
-    subst (λ (n : ℕ). Stays (layout_of l) frames next.u next.y.from n (k + 1) b.age) next.carrier (subst (λ (j : ℕ). Stays (layout_of l) frames next.u next.y.from next.y.carrier j b.age) next.step b.stay) in
+    subst (λ (n : ℕ). Stays (layout_of l) frames next.u next.y.from n (k + 1) b.age) next.carrier
+    (subst (λ (j : ℕ). Stays (layout_of l) frames next.u next.y.from next.y.carrier j b.age) next.step b.stay) in
     begun_before l period frames next.u next.y.from c k b.age end run new stay next.early
 
 -- the life of carrier c
@@ -130,10 +143,12 @@ pub record Life (l : LineData) (frames : ℕ → Scene) (c n stay : ℕ) : Type 
   pub early : off ≤ n + stay
   pub begun : (k : ℕ) → k < last_stage l → Begun frames c k (off + 1)
 
-begun_all : (l : LineData) (period : ℕ) (frames : ℕ → Scene) (c end d k : ℕ) → Unrolled l period frames → (frames 0).next ≤ c
+begun_all : (l : LineData) (period : ℕ) (frames : ℕ → Scene) (c end d k : ℕ) → Unrolled l period frames
+    → (frames 0).next ≤ c
     → ((j : ℕ) → j + 1 ≡ last_stage l → Begun frames c j end) → k + suc d ≡ last_stage l → Begun frames c k end
 begun_all l period frames c end zero k run new last e = last k (omega arith)
-begun_all l period frames c end (suc d) k run new last e = begun_earlier l period frames c k end run new (begun_all l period frames c end d (k + 1) run new last (omega arith))
+begun_all l period frames c end (suc d) k run new last e = begun_earlier l period frames c k end run new
+    (begun_all l period frames c end d (k + 1) run new last (omega arith))
 
 pub lives : (l : LineData) (period : ℕ) (frames : ℕ → Scene) (c n : ℕ) → Unrolled l period frames → (frames 0).next ≤ c
     → c < (frames n).next → Life l frames c n (longest_stay l period)
@@ -146,7 +161,8 @@ lives l period frames c n run new lt =
     let off = off_found l period frames (suc put.s) c run there in
     let soon = off.early in
     let late = off.late in
-    let taken : TakenOff (layout_of l) (frames off.s) (frames (suc off.s)) c = ⊎_elim (λ taken. taken) (λ stays. absurd (off.after stays)) ((run.passes off.s).stays c off.before) in
+    let taken : TakenOff (layout_of l) (frames off.s) (frames (suc off.s)) c = ⊎_elim (λ taken. taken)
+    (λ stays. absurd (off.after stays)) ((run.passes off.s).stays c off.before) in
     let stay = stays l period frames taken.age off.s taken.i c (last_stage l) run new taken.comes in
     let some = run.layout.last.0 in
     record {

@@ -54,7 +54,8 @@ shown l period frames run = record {
 }
 
 -- a carrier is lifted out of the tank into which it was lowered
-pub same_tank : (l : LineData) (period : ℕ) (frames : ℕ → Scene) (c k : ℕ) (a b : Carry) (t u h h' : ℕ) → Unrolled l period frames
+pub same_tank : (l : LineData) (period : ℕ) (frames : ℕ → Scene) (c k : ℕ) (a b : Carry) (t u h h' : ℕ)
+    → Unrolled l period frames
     → (frames 0).next ≤ c → Begins frames t h a → Begins frames u h' b
     → a.carrier ≡ c → b.carrier ≡ c → a.step ≡ k + 1 → b.step ≡ k → a.from ≡ b.to
 same_tank l period frames c k a b t u h h' run new begins begins' carrier carrier' step step' =
@@ -69,7 +70,8 @@ same_tank l period frames c k a b t u h h' run new begins begins' carrier carrie
     (λ put. absurd (let e = put.stage in omega arith))
     rest.stay.came
 
-from_tank : (l : LineData) (period : ℕ) (frames : ℕ → Scene) (c k : ℕ) (run : Unrolled l period frames) → k < last_stage l
+from_tank : (l : LineData) (period : ℕ) (frames : ℕ → Scene) (c k : ℕ) (run : Unrolled l period frames)
+    → k < last_stage l
     → (move l period frames c k run).begun.y.from ≡ tank_from (λ j. (move l period frames c j run).begun.y) k
 from_tank l period frames c zero run lt = refl
 from_tank l period frames c (suc k) run lt =
@@ -77,12 +79,14 @@ from_tank l period frames c (suc k) run lt =
     let b = (move l period frames c k run).begun in
     let step = a.step in
     let step' = b.step in
-    same_tank l period frames ((frames 0).next + c) k a.y b.y a.u b.u a.h b.h run (omega arith) a.begins b.begins a.carrier b.carrier (omega arith) (omega arith)
+    same_tank l period frames ((frames 0).next + c) k a.y b.y a.u b.u a.h b.h run
+    (omega arith) a.begins b.begins a.carrier b.carrier (omega arith) (omega arith)
 
 pub carry_is : (y : Carry) (c k from to : ℕ) → y.carrier ≡ c → y.step ≡ k → y.elapsed ≡ 0 → y.from ≡ from → y.to ≡ to → y ≡ record { carrier = c; step = k; elapsed = 0; from = from; to = to }
 carry_is y c k from to a b d e f = λ p. record { carrier = a p; step = b p; elapsed = d p; from = e p; to = f p }
 
-pub shows : (l : LineData) (period : ℕ) (frames : ℕ → Scene) (run : Unrolled l period frames) → Shows l period frames (shown l period frames run)
+pub shows : (l : LineData) (period : ℕ) (frames : ℕ → Scene) (run : Unrolled l period frames)
+    → Shows l period frames (shown l period frames run)
 shows l period frames run = record {
   period = refl;
   put = λ c lt. let put = (life l period frames c run).put in (put.before, put.after);

@@ -23,7 +23,8 @@ use Rattle.machine_loops.proofs.Raised.{lower_carry}
 use Rattle.machine_loops.proofs.ReadLemmas.{before_more, before_next}
 
 -- in a table with rows of w, whatever is written at a place is what f has there
-table_keeps : (w : ℕ) (f : ℕ → ℕ → ℕ) (xs : List ℕ) (c k c' k' v : ℕ) → k < w → k' < w → c' * w + k' < length xs → v ≡ f c' k'
+table_keeps : (w : ℕ) (f : ℕ → ℕ → ℕ) (xs : List ℕ) (c k c' k' v : ℕ) → k < w → k' < w → c' * w + k' < length xs
+    → v ≡ f c' k'
     → get_or xs (c * w + k) 0 ≡ f c k → get_or (set xs (c' * w + k') v) (c * w + k) 0 ≡ f c k
 table_keeps w f xs c k c' k' v lt lt' there value is =
     ⊎_elim
@@ -42,20 +43,24 @@ record Planned (p : Timetable) (c s h : ℕ) (y : Carry) : Type 0 where
   to : y.to ≡ p.tank c (y.step + 1)
 
 planned : (l : LineData) (frames : List Frame) (p : Timetable) (c s h : ℕ) (y : Carry) → IsLine l → IsReadable l frames
-    → Shows l (length frames) (for_ever l frames) p → c < l.degree → IsBegun (for_ever l frames) (carrier_of l frames c) s h y
+    → Shows l (length frames) (for_ever l frames) p → c < l.degree
+    → IsBegun (for_ever l frames) (carrier_of l frames c) s h y
     → Planned p c s h y
 planned l frames p c s h y line closed shows lt begun =
     let run = run_of l frames line closed in
     let step = ((run.sound s).carries h y begun.is).step in
     let carrier = begun.carrier in
-    let one = one_begin l (length frames) (for_ever l frames) s (p.start c y.step) h (p.hoist c y.step) y (carry_of (for_ever l frames) p c y.step) run (omega arith)
+    let one = one_begin l (length frames) (for_ever l frames) s (p.start c y.step) h (p.hoist c y.step) y
+    (carry_of (for_ever l frames) p c y.step) run (omega arith)
     (record { is = begun.is; new = begun.new }) (record { is = shows.begin c y.step lt step; new = refl }) carrier refl in
     record { start = one.tick; hoist = one.hoist; from = ap (λ (z : Carry). z.from) one.carry; to = ap (λ (z : Carry). z.to) one.carry }
 
 -- the lists as the timetable has them
 has_move : (l : LineData) (p : Timetable) (c s h : ℕ) (y : Carry) (starts hoists tanks : List ℕ) → Planned p c s h y
-    → get_or starts (move_number l c y.step) 0 ≡ p.start c y.step → get_or hoists (move_number l c y.step) 0 ≡ p.hoist c y.step
-    → get_or tanks (visit_number l c y.step) 0 ≡ p.tank c y.step → get_or tanks (visit_number l c (y.step + 1)) 0 ≡ p.tank c (y.step + 1)
+    → get_or starts (move_number l c y.step) 0 ≡ p.start c y.step
+    → get_or hoists (move_number l c y.step) 0 ≡ p.hoist c y.step
+    → get_or tanks (visit_number l c y.step) 0 ≡ p.tank c y.step
+    → get_or tanks (visit_number l c (y.step + 1)) 0 ≡ p.tank c (y.step + 1)
     → HasMove l c s h y starts hoists tanks
 has_move l p c s h y starts hoists tanks plan a b d e = record {
   start = a ∙ sym plan.start;
@@ -101,7 +106,8 @@ move_stays l p c s h c' s' h' y y' starts hoists tanks starts' hoists' tanks' mo
     (table_keeps m p.tank tanks c (k + 1) c' k' y'.from (omega arith) (omega arith) (omega arith) plan'.from (has.to ∙ plan.to)))
 
 -- the move that is written is there
-move_comes : (l : LineData) (c s h : ℕ) (y : Carry) (starts hoists tanks starts' hoists' tanks' : List ℕ) → IsMove l c y.step
+move_comes : (l : LineData) (c s h : ℕ) (y : Carry) (starts hoists tanks starts' hoists' tanks' : List ℕ)
+    → IsMove l c y.step
     → length starts ≡ move_count l → length hoists ≡ move_count l → length tanks ≡ visit_count l
     → Written l c s h y starts hoists tanks starts' hoists' tanks' → HasMove l c s h y starts' hoists' tanks'
 move_comes l c s h y starts hoists tanks starts' hoists' tanks' move count_s count_h count_t written =
@@ -117,12 +123,14 @@ move_comes l c s h y starts hoists tanks starts' hoists' tanks' move count_s cou
       start = ap (λ (xs : List ℕ). get_or xs (move_number l c k) 0) written.start ∙ get_or-set_same starts (move_number l c k) s 0 (omega arith);
       hoist = ap (λ (xs : List ℕ). get_or xs (move_number l c k) 0) written.hoist ∙ get_or-set_same hoists (move_number l c k) h 0 (omega arith);
       from = ap (λ (xs : List ℕ). get_or xs (visit_number l c k) 0) written.tank
-          ∙ get_or-set_other first (visit_number l c (k + 1)) (visit_number l c k) y.to 0 other ∙ get_or-set_same tanks (visit_number l c k) y.from 0 (omega arith);
+          ∙ get_or-set_other first (visit_number l c (k + 1)) (visit_number l c k) y.to 0 other
+          ∙ get_or-set_same tanks (visit_number l c k) y.from 0 (omega arith);
       to = ap (λ (xs : List ℕ). get_or xs (visit_number l c (k + 1)) 0) written.tank ∙ get_or-set_same first (visit_number l c (k + 1)) y.to 0 (omega arith);
     }
 
 -- the step of a carry is one of the line
-pub carry_step : (l : LineData) (frames : List Frame) (t h : ℕ) (y : Carry) → IsLine l → IsReadable l frames → t < length frames
+pub carry_step : (l : LineData) (frames : List Frame) (t h : ℕ) (y : Carry) → IsLine l → IsReadable l frames
+    → t < length frames
     → (scenes frames t).carry h ≡ Some y → y.step + 1 < length l.stages
 carry_step l frames t h y line closed lt is =
     let run = run_of l frames line closed in
@@ -131,7 +139,8 @@ carry_step l frames t h y line closed lt is =
     omega arith
 
 -- a carry that begins in frame t begins so at its tick
-begun_at : (l : LineData) (frames : List Frame) (c s j t h : ℕ) (y z : Carry) → 1 ≤ length frames → (scenes frames t).carry h ≡ Some y
+begun_at : (l : LineData) (frames : List Frame) (c s j t h : ℕ) (y z : Carry) → 1 ≤ length frames
+    → (scenes frames t).carry h ≡ Some y
     → IsBegun (for_ever l frames) c s j z → s % length frames ≡ t → j ≡ h
     → z ≡ raised_carry (s / length frames * l.degree) y
 begun_at l frames c s j t h y z some has begun same hoist =
@@ -165,7 +174,8 @@ noted_begin l frames t h y seen starts hoists tanks starts' hoists' tanks' line 
     record {
       start_count = ap (λ (xs : List ℕ). length xs) a ∙ length-set starts (move_number l seen.carrier y.step) seen.tick ∙ moves.start_count;
       hoist_count = ap (λ (xs : List ℕ). length xs) b ∙ length-set hoists (move_number l seen.carrier y.step) h ∙ moves.hoist_count;
-      tank_count = ap (λ (xs : List ℕ). length xs) d ∙ length-set (set tanks (visit_number l seen.carrier y.step) y.from) (visit_number l seen.carrier (y.step + 1)) y.to
+      tank_count = ap (λ (xs : List ℕ). length xs) d ∙ length-set
+          (set tanks (visit_number l seen.carrier y.step) y.from) (visit_number l seen.carrier (y.step + 1)) y.to
           ∙ length-set tanks (visit_number l seen.carrier y.step) y.from ∙ moves.tank_count;
       told = λ c s j x there begun read. ⊎_elim
           (λ before.
@@ -178,7 +188,8 @@ noted_begin l frames t h y seen starts hoists tanks starts' hoists' tanks' line 
           let carrier = begun.carrier in
           let raised : x.carrier ≡ y.carrier + s / length frames * l.degree = ap (λ (w : Carry). w.carrier) one in
           let at = one_turn l frames y.carrier c s seen (omega arith) there (omega arith) (subst (λ (n : ℕ). IsSeen l frames n y.carrier seen) (sym same) is) in
-          let comes = move_comes l seen.carrier seen.tick h y starts hoists tanks starts' hoists' tanks' move moves.start_count moves.hoist_count moves.tank_count written in
+          let comes = move_comes l seen.carrier seen.tick h y starts hoists tanks starts' hoists' tanks' move
+          moves.start_count moves.hoist_count moves.tank_count written in
           let comes_raised : HasMove l seen.carrier seen.tick h (raised_carry (s / length frames * l.degree) y) starts' hoists' tanks' =
           record { start = comes.start; hoist = comes.hoist; from = comes.from; to = comes.to } in
           subst (λ (w : Carry). HasMove l c s j w starts' hoists' tanks') (sym one)
@@ -206,7 +217,8 @@ no_begin l frames t h starts hoists tanks none moves = record {
       (before_more t h (s % length frames) j read);
 }
 
-pub moves_next : (l : LineData) (frames : List Frame) (t : ℕ) (starts hoists tanks : List ℕ) → IsLine l → IsReadable l frames
+pub moves_next : (l : LineData) (frames : List Frame) (t : ℕ) (starts hoists tanks : List ℕ) → IsLine l
+    → IsReadable l frames
     → MovesTo l frames t l.hoists starts hoists tanks → MovesTo l frames (t + 1) 0 starts hoists tanks
 moves_next l frames t starts hoists tanks line closed moves =
     let run = run_of l frames line closed in
@@ -228,7 +240,8 @@ place_noted l frames t h path lt there told =
     record {
       count = length-set path (h * length frames + t) here ∙ told.count;
       told = λ j s lt_j lt_s read. ⊎_elim
-          (λ before. table_keeps (length frames) (λ (a : ℕ) (b : ℕ). (scenes frames b).at a) path j s h t here lt_s lt (omega arith) refl (told.told j s lt_j lt_s before))
+          (λ before. table_keeps (length frames) (λ (a : ℕ) (b : ℕ). (scenes frames b).at a) path j s h t here lt_s lt
+          (omega arith) refl (told.told j s lt_j lt_s before))
           (λ (same, hoist).
           let at : j * length frames + s ≡ h * length frames + t = ap (λ (a : ℕ). a * length frames + s) hoist ∙ ap (λ (b : ℕ). h * length frames + b) same in
           ap (λ (i : ℕ). get_or (set path (h * length frames + t) here) i 0) at ∙ get_or-set_same path (h * length frames + t) here 0 (omega arith)
@@ -236,5 +249,6 @@ place_noted l frames t h path lt there told =
           (before_more t h s j read);
     }
 
-pub path_next : (l : LineData) (frames : List Frame) (t : ℕ) (path : List ℕ) → PathTo l frames t l.hoists path → PathTo l frames (t + 1) 0 path
+pub path_next : (l : LineData) (frames : List Frame) (t : ℕ) (path : List ℕ) → PathTo l frames t l.hoists path
+    → PathTo l frames (t + 1) 0 path
 path_next l frames t path told = record { count = told.count; told = λ j s lt_j lt_s read. told.told j s lt_j lt_s (before_next t l.hoists s j lt_j read) }

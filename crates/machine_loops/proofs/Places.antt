@@ -36,14 +36,16 @@ place_count l = l.hoists + l.tanks
 abbrev pub at_place : Layout → Scene → ℕ → Option ℕ
 at_place l f q = cond (nat_lt q l.hoists) (option_map (λ (y : Carry). y.carrier) (f.carry q)) (option_map (λ (x : Hold). x.carrier) (f.hold (q - l.hoists)))
 
-pub placed : (l : Layout) (f : Scene) (c : ℕ) → IsLayout l → Sound l f → IsInLine f c → (q : ℕ) × (q < place_count l) × (at_place l f q ≡ Some c)
+pub placed : (l : Layout) (f : Scene) (c : ℕ) → IsLayout l → Sound l f → IsInLine f c
+    → (q : ℕ) × (q < place_count l) × (at_place l f q ≡ Some c)
 placed l f c layout sound there =
     ⊎_elim
     (λ (h, y, is, same).
     let lt = (sound.carries h y is).there in (
       h,
       omega arith,
-      ap (λ (b : Bool). cond b (option_map (λ (y : Carry). y.carrier) (f.carry h)) (option_map (λ (x : Hold). x.carrier) (f.hold (h - l.hoists)))) (lt-ltb h l.hoists lt)
+      ap (λ (b : Bool). cond b (option_map (λ (y : Carry). y.carrier) (f.carry h))
+          (option_map (λ (x : Hold). x.carrier) (f.hold (h - l.hoists)))) (lt-ltb h l.hoists lt)
           ∙ ap (option_map (λ (y : Carry). y.carrier)) is ∙ ap (λ (n : ℕ). Some n) same,
     ))
     (λ (i, k, age, rests).
@@ -52,7 +54,8 @@ placed l f c layout sound there =
     let e : q - l.hoists ≡ i = omega arith in (
       q,
       omega arith,
-      ap (λ (b : Bool). cond b (option_map (λ (y : Carry). y.carrier) (f.carry q)) (option_map (λ (x : Hold). x.carrier) (f.hold (q - l.hoists)))) (le-ltb q l.hoists (omega arith))
+      ap (λ (b : Bool). cond b (option_map (λ (y : Carry). y.carrier) (f.carry q))
+          (option_map (λ (x : Hold). x.carrier) (f.hold (q - l.hoists)))) (le-ltb q l.hoists (omega arith))
           ∙ ap (λ (j : ℕ). option_map (λ (x : Hold). x.carrier) (f.hold j)) e ∙ ap (option_map (λ (x : Hold). x.carrier)) rests,
     ))
     there
@@ -69,7 +72,8 @@ among P told (suc n) =
     (told n))
     (among P told n)
 
-carry_told : (o : Option Carry) (c : ℕ) → ((y : Carry) × (o ≡ Some y) × (y.carrier ≡ c)) ⊎ ((y : Carry) × (o ≡ Some y) × (y.carrier ≡ c) → ⊥)
+carry_told : (o : Option Carry) (c : ℕ)
+    → ((y : Carry) × (o ≡ Some y) × (y.carrier ≡ c)) ⊎ ((y : Carry) × (o ≡ Some y) × (y.carrier ≡ c) → ⊥)
 carry_told None c = inr (λ (y, is, same). absurd (let g = is in cc))
 carry_told (Some x) c =
     ⊎_elim

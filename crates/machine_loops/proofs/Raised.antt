@@ -25,7 +25,8 @@ pub record Going (l : Layout) (f : Scene) (h : ℕ) (y : Carry) : Type 0 where
   pub going : y.elapsed < length_of l y
   pub at : f.at h ≡ move_place l y.step y.from y.to y.elapsed
   pub lifting : y.elapsed < l.lift y.step → f.hold y.from ≡ Some (hold_of y.carrier y.step Lifting)
-  pub lowering : length_of l y ≤ y.elapsed + l.lower (y.step + 1) → f.hold y.to ≡ Some (hold_of y.carrier (y.step + 1) Lowering)
+  pub lowering : length_of l y ≤ y.elapsed + l.lower (y.step + 1)
+      → f.hold y.to ≡ Some (hold_of y.carrier (y.step + 1) Lowering)
   pub known : y.carrier < f.next
 
 -- the frame rules that are needed of a frame with later carriers
@@ -34,7 +35,8 @@ pub record Sound (l : Layout) (f : Scene) : Type 0 where
   pub carries : (h : ℕ) (y : Carry) → f.carry h ≡ Some y → Going l f h y
   pub known : (i c k age : ℕ) → Rests f i c k age → c < f.next
   pub there : (i : ℕ) (x : Hold) → f.hold i ≡ Some x → l.serves i x.stage ≡ true
-  pub one_hoist : (h h' : ℕ) (y y' : Carry) → f.carry h ≡ Some y → f.carry h' ≡ Some y' → y.carrier ≡ y'.carrier → h ≡ h'
+  pub one_hoist : (h h' : ℕ) (y y' : Carry) → f.carry h ≡ Some y → f.carry h' ≡ Some y' → y.carrier ≡ y'.carrier
+      → h ≡ h'
   pub not_both : (i c k age h : ℕ) (y : Carry) → Rests f i c k age → f.carry h ≡ Some y → y.carrier ≡ c → ⊥
 
 pub sound : (l : Layout) (f : Scene) → KeepsRules l f → Sound l f
@@ -89,7 +91,8 @@ lower_rest d f i c k age e =
     record {
       c' = low.x.carrier;
       carrier = ap (λ (w : Hold). w.carrier) low.is;
-      rests = low.was ∙ ap (λ (w : Hold). Some w) (hold_is low.x low.x.carrier k (Resting age) refl (ap (λ (w : Hold). w.stage) low.is) (ap (λ (w : Hold). w.rest) low.is));
+      rests = low.was ∙ ap (λ (w : Hold). Some w) (hold_is low.x low.x.carrier k
+          (Resting age) refl (ap (λ (w : Hold). w.stage) low.is) (ap (λ (w : Hold). w.rest) low.is));
     }
 
 pub raised_sound : (l : Layout) (d : ℕ) (f : Scene) → Sound l f → Sound l (raised d f)
@@ -133,7 +136,8 @@ raised_sound l d f s = record {
       s.not_both i low.c' k age h low'.x low.rests low'.was (omega arith);
 }
 
-raised_comes : (l : Layout) (d : ℕ) (f g : Scene) (i c k age : ℕ) → Comes l f g i c k age → Comes l (raised d f) (raised d g) i (c + d) k age
+raised_comes : (l : Layout) (d : ℕ) (f g : Scene) (i c k age : ℕ) → Comes l f g i c k age
+    → Comes l (raised d f) (raised d g) i (c + d) k age
 raised_comes l d f g i c k zero comes =
     ⊎_elim
     (λ set. inl (record {
@@ -211,13 +215,15 @@ raised_passes l d f g p = record {
 }
 
 -- twice raised
-carry_twice : (a b : ℕ) (o : Option Carry) → option_map (raised_carry a) (option_map (raised_carry b) o) ≡ option_map (raised_carry (b + a)) o
+carry_twice : (a b : ℕ) (o : Option Carry)
+    → option_map (raised_carry a) (option_map (raised_carry b) o) ≡ option_map (raised_carry (b + a)) o
 carry_twice a b None = refl
 carry_twice a b (Some y) =
     let e : y.carrier + b + a ≡ y.carrier + (b + a) = omega arith in
     ap (λ (n : ℕ). Some (record y { carrier = n })) e
 
-hold_twice : (a b : ℕ) (o : Option Hold) → option_map (raised_hold a) (option_map (raised_hold b) o) ≡ option_map (raised_hold (b + a)) o
+hold_twice : (a b : ℕ) (o : Option Hold)
+    → option_map (raised_hold a) (option_map (raised_hold b) o) ≡ option_map (raised_hold (b + a)) o
 hold_twice a b None = refl
 hold_twice a b (Some x) =
     let e : x.carrier + b + a ≡ x.carrier + (b + a) = omega arith in

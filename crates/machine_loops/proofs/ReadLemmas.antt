@@ -71,9 +71,11 @@ record Noted (l : LineData) (frames : List Frame) (t d : ℕ) (old new : List �
   tick : ℕ
   rises : Rises old new c (tick + 1)
   in_line : IsIn (for_ever l frames tick) (carrier_of l frames c)
-  one : (c' s : ℕ) → c' < l.degree → s % length frames ≡ t → d + s / length frames * l.degree ≡ carrier_of l frames c' → (c' ≡ c) × (s ≡ tick)
+  one : (c' s : ℕ) → c' < l.degree → s % length frames ≡ t → d + s / length frames * l.degree ≡ carrier_of l frames c'
+      → (c' ≡ c) × (s ≡ tick)
 
-noted : (l : LineData) (frames : List Frame) (t d : ℕ) (old new : List ℕ) → IsLine l → IsReadable l frames → t < length frames
+noted : (l : LineData) (frames : List Frame) (t d : ℕ) (old new : List ℕ) → IsLine l → IsReadable l frames
+    → t < length frames
     → length old ≡ l.degree → IsIn (scenes frames t) d → IsNoted l frames t d old new → Noted l frames t d old new
 noted l frames t d old new line closed lt count there is =
     let seen = is.seen in
@@ -104,15 +106,18 @@ record CarriedThere (l : LineData) (frames : List Frame) (c s j : ℕ) : Type 0 
   is : (scenes frames (s % length frames)).carry j ≡ Some x
   carrier : x.carrier + s / length frames * l.degree ≡ c
 
-carried_there : (l : LineData) (frames : List Frame) (c s j : ℕ) (y : Carry) → (for_ever l frames s).carry j ≡ Some y → y.carrier ≡ c
+carried_there : (l : LineData) (frames : List Frame) (c s j : ℕ) (y : Carry) → (for_ever l frames s).carry j ≡ Some y
+    → y.carrier ≡ c
     → CarriedThere l frames c s j
 carried_there l frames c s j y is carrier =
     let low = lower_carry (s / length frames * l.degree) ((scenes frames (s % length frames)).carry j) y is in
     record { x = low.x; is = low.was; carrier = ap (λ (z : Carry). z.carrier) low.is ∙ carrier }
 
 -- so it is then with one more hoist
-pub noted_carried : (l : LineData) (frames : List Frame) (t h i : ℕ) (y : Carry) (old new : List ℕ) → IsLine l → IsReadable l frames
-    → t < length frames → (scenes frames t).carry h ≡ Some y → OffsTo l frames t h i old → IsNoted l frames t y.carrier old new
+pub noted_carried : (l : LineData) (frames : List Frame) (t h i : ℕ) (y : Carry) (old new : List ℕ) → IsLine l
+    → IsReadable l frames
+    → t < length frames → (scenes frames t).carry h ≡ Some y → OffsTo l frames t h i old
+    → IsNoted l frames t y.carrier old new
     → OffsTo l frames t (h + 1) i new
 noted_carried l frames t h i y old new line closed lt has offs is =
     let n = noted l frames t y.carrier old new line closed lt offs.count (inl (h, y, has, refl)) is in
@@ -138,8 +143,10 @@ noted_carried l frames t h i y old new line closed lt has offs is =
     }
 
 -- and so with who rests in a tank
-pub noted_rester : (l : LineData) (frames : List Frame) (t h i d : ℕ) (old new : List ℕ) → IsLine l → IsReadable l frames
-    → t < length frames → IsRester ((scenes frames t).hold i) (Some d) → OffsTo l frames t h i old → IsNoted l frames t d old new
+pub noted_rester : (l : LineData) (frames : List Frame) (t h i d : ℕ) (old new : List ℕ) → IsLine l
+    → IsReadable l frames
+    → t < length frames → IsRester ((scenes frames t).hold i) (Some d) → OffsTo l frames t h i old
+    → IsNoted l frames t d old new
     → OffsTo l frames t h (i + 1) new
 noted_rester l frames t h i d old new line closed lt (m, old_age, has) offs is =
     let n = noted l frames t d old new line closed lt offs.count (inr (i, m, old_age, has)) is in
@@ -164,7 +171,8 @@ noted_rester l frames t h i d old new line closed lt (m, old_age, has) offs is =
           (before_more t i (s % length frames) j read);
     }
 
-pub none_resting : (l : LineData) (frames : List Frame) (t h i : ℕ) (offs : List ℕ) → IsRester ((scenes frames t).hold i) None
+pub none_resting : (l : LineData) (frames : List Frame) (t h i : ℕ) (offs : List ℕ)
+    → IsRester ((scenes frames t).hold i) None
     → OffsTo l frames t h i offs → OffsTo l frames t h (i + 1) offs
 none_resting l frames t h i xs none offs = record {
   count = offs.count;
@@ -191,7 +199,8 @@ offs_next l frames t xs line closed offs =
       carried = λ c s j y there is carrier read. offs.carried c s j y there is carrier
           (before_next t l.hoists (s % length frames) j ((run.sound s).carries j y is).there read);
       rested = λ c s j k age there is read. offs.rested c s j k age there is
-          (before_next t (length l.tanks) (s % length frames) j (run.layout.there j k ((run.sound s).there j (hold_of (carrier_of l frames c) k (Resting age)) is)) read);
+          (before_next t (length l.tanks) (s % length frames) j
+          (run.layout.there j k ((run.sound s).there j (hold_of (carrier_of l frames c) k (Resting age)) is)) read);
     }
 
 -- puts
@@ -204,7 +213,8 @@ next_from l frames t line closed lt =
     let up = rises l (length frames) (for_ever l frames) 0 t run (omega arith) in
     omega arith
 
-pub put_noted : (l : LineData) (frames : List Frame) (t : ℕ) (puts : List ℕ) → IsLine l → IsReadable l frames → t < length frames
+pub put_noted : (l : LineData) (frames : List Frame) (t : ℕ) (puts : List ℕ) → IsLine l → IsReadable l frames
+    → t < length frames
     → PutsTo l frames t puts → (scenes frames t).next - (scenes frames 0).next < l.degree
     → PutsTo l frames (t + 1) (set puts ((scenes frames t).next - (scenes frames 0).next) (t + 1))
 put_noted l frames t xs line closed lt puts below =
@@ -231,7 +241,8 @@ put_noted l frames t xs line closed lt puts below =
           (cases_eq s (t + 1));
     }
 
-pub none_put : (l : LineData) (frames : List Frame) (t : ℕ) (puts : List ℕ) → IsLine l → IsReadable l frames → t < length frames
+pub none_put : (l : LineData) (frames : List Frame) (t : ℕ) (puts : List ℕ) → IsLine l → IsReadable l frames
+    → t < length frames
     → PutsTo l frames t puts → l.degree ≤ (scenes frames t).next - (scenes frames 0).next → PutsTo l frames (t + 1) puts
 none_put l frames t xs line closed lt puts above =
     let here = next_is l frames t lt in

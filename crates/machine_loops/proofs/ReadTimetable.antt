@@ -24,13 +24,19 @@ use Rattle.machine_loops.proofs.LoopLaws.{next_after, loops_are_timetables}
 use Rattle.machine_loops.proofs.SeenLemmas.{before_off, in_line_soon, run_of, first_period}
 
 -- nothing has been read
-pub nothing_read : (l : LineData) (frames : List Frame) (d : TimetableParts) → d.period ≡ length frames → length d.put.items ≡ l.degree
-    → length d.off.items ≡ l.degree → ((c : ℕ) → c < l.degree → get_or d.off.items c 0 ≡ 0) → length d.start.items ≡ move_count l
+pub nothing_read : (l : LineData) (frames : List Frame) (d : TimetableParts) → d.period ≡ length frames
+    → length d.put.items ≡ l.degree
+    → length d.off.items ≡ l.degree → ((c : ℕ) → c < l.degree → get_or d.off.items c 0 ≡ 0)
+    → length d.start.items ≡ move_count l
     → length d.hoist.items ≡ move_count l → length d.tank.items ≡ l.degree * length l.stages
     → length d.path.items ≡ l.hoists * length frames → PartsTo l frames 0 d
 nothing_read l frames d period puts offs none starts hoists tanks path = record {
   period = period;
-  puts = record { count = puts; told = λ c s lt le put. let e : s ≡ 0 = omega arith in absurd (subst (IsPutAt (for_ever l frames) (carrier_of l frames c)) e put) };
+  puts = record {
+    count = puts;
+    told = λ c s lt le put. let e : s
+        ≡ 0 = omega arith in absurd (subst (IsPutAt (for_ever l frames) (carrier_of l frames c)) e put);
+  };
   offs = record {
     count = offs;
     after = λ c lt. subst (IsAfterIn (for_ever l frames) (carrier_of l frames c)) (sym (none c lt)) tt;
@@ -48,14 +54,17 @@ nothing_read l frames d period puts offs none starts hoists tanks path = record 
 
 -- when a carrier is taken off
 after_before : (l : LineData) (frames : List Frame) (c off x : ℕ) → IsLine l → IsReadable l frames
-    → IsOffAt (for_ever l frames) (carrier_of l frames c) off → IsAfterIn (for_ever l frames) (carrier_of l frames c) x → x ≤ off
+    → IsOffAt (for_ever l frames) (carrier_of l frames c) off → IsAfterIn (for_ever l frames) (carrier_of l frames c) x
+    → x ≤ off
 after_before l frames c off zero line closed is after = omega arith
 after_before l frames c off (suc s) line closed is after =
     let lt = before_off l (length frames) (for_ever l frames) (carrier_of l frames c) off s (run_of l frames line closed) is after in
     omega arith
 
-off_is : (l : LineData) (frames : List Frame) (c off : ℕ) (offs : List ℕ) → IsLine l → IsReadable l frames → c < l.degree
-    → OffsTo l frames (length frames) 0 0 offs → IsOffAt (for_ever l frames) (carrier_of l frames c) off → get_or offs c 0 ≡ off
+off_is : (l : LineData) (frames : List Frame) (c off : ℕ) (offs : List ℕ) → IsLine l → IsReadable l frames
+    → c < l.degree
+    → OffsTo l frames (length frames) 0 0 offs → IsOffAt (for_ever l frames) (carrier_of l frames c) off
+    → get_or offs c 0 ≡ off
 off_is l frames c zero offs line closed lt told is = absurd is
 off_is l frames c (suc s) offs line closed lt told is =
     let below = after_before l frames c (suc s) (get_or offs c 0) line closed is (told.after c lt) in
@@ -84,7 +93,8 @@ record IsThat (l : LineData) (d : TimetableParts) (p : Timetable) : Type 0 where
   to : (c k : ℕ) → c < l.degree → k < last_stage l → get_or d.tank.items (visit_number l c (k + 1)) 0 ≡ p.tank c (k + 1)
 
 move_read : (l : LineData) (frames : List Frame) (d : TimetableParts) (p : Timetable) (c k : ℕ) → IsReadable l frames
-    → Shows l (length frames) (for_ever l frames) p → PartsTo l frames (length frames) d → c < l.degree → k < last_stage l
+    → Shows l (length frames) (for_ever l frames) p → PartsTo l frames (length frames) d → c < l.degree
+    → k < last_stage l
     → HasMove l c (p.start c k) (p.hoist c k) (carry_of (for_ever l frames) p c k) d.start.items d.hoist.items d.tank.items
 move_read l frames d p c k closed shows told lt step =
     told.moves.told c (p.start c k) (p.hoist c k) (carry_of (for_ever l frames) p c k) lt
@@ -113,11 +123,13 @@ is_that l frames d p line closed shows told = record {
 }
 
 -- the frames show the timetable of the lists
-tank_place : (l : LineData) (tanks : List ℕ) (c k : ℕ) → IsLine l → get_or tanks (c * (last_stage l + 1) + k) 0 ≡ get_or tanks (visit_number l c k) 0
+tank_place : (l : LineData) (tanks : List ℕ) (c k : ℕ) → IsLine l
+    → get_or tanks (c * (last_stage l + 1) + k) 0 ≡ get_or tanks (visit_number l c k) 0
 tank_place l tanks c k line = let some = line.limits.stages.0 in ap (λ (m : ℕ). get_or tanks (c * m + k) 0) (omega arith)
 
 pub shows_read : (l : LineData) (frames : List Frame) (d : TimetableParts) → IsLine l → IsReadable l frames
-    → PartsTo l frames (length frames) d → Shows l (length frames) (for_ever l frames) (timetable_of (data_of (last_stage l) d))
+    → PartsTo l frames (length frames) d
+    → Shows l (length frames) (for_ever l frames) (timetable_of (data_of (last_stage l) d))
 shows_read l frames d line closed told =
     let (p, is_legal, period, shows) = loops_are_timetables l (length frames) (scenes frames) line closed.loop in
     let that = is_that l frames d p line closed shows told in
@@ -150,7 +162,12 @@ legal_read l frames d line closed told =
 start_soon : (l : LineData) (frames : List Frame) (p : Timetable) (c k : ℕ) → IsLine l → IsReadable l frames
     → Shows l (length frames) (for_ever l frames) p → c < l.degree → k < last_stage l → p.start c k ≤ last_tick
 start_soon l frames p c k line closed shows lt step =
-    let there : IsIn (for_ever l frames (p.start c k)) (carrier_of l frames c) = inl (p.hoist c k, carry_of (for_ever l frames) p c k, shows.begin c k lt step, refl) in
+    let there : IsIn (for_ever l frames (p.start c k)) (carrier_of l frames c) = inl (
+      p.hoist c k,
+      carry_of (for_ever l frames) p c k,
+      shows.begin c k lt step,
+      refl,
+    ) in
     let soon = in_line_soon l (length frames) (for_ever l frames) c (p.start c k) (run_of l frames line closed) closed.few lt there in
     omega arith
 
@@ -172,7 +189,8 @@ hoist_there : (l : LineData) (frames : List Frame) (p : Timetable) (c k : ℕ) �
 hoist_there l frames p c k line closed shows lt step =
     (((run_of l frames line closed).sound (p.start c k)).carries (p.hoist c k) (carry_of (for_ever l frames) p c k) (shows.begin c k lt step)).there
 
-tank_serves : (l : LineData) (d : TimetableParts) (p : Timetable) (c k : ℕ) → IsLine l → IsLegal l p → IsThat l d p → IsVisit l c k
+tank_serves : (l : LineData) (d : TimetableParts) (p : Timetable) (c k : ℕ) → IsLine l → IsLegal l p → IsThat l d p
+    → IsVisit l c k
     → Serves l (get_or d.tank.items (visit_number l c k) 0) k
 tank_serves l d p c k line is_legal that v =
     let some = line.limits.stages.0 in
@@ -186,12 +204,14 @@ tank_serves l d p c k line is_legal that v =
     (cases_lt k (last_stage l))
 
 -- a fact of each number of a list, and of 0
-each_or_none : (P : ℕ → Type 0) (xs : List ℕ) → P 0 → ((i : ℕ) → i < length xs → P (get_or xs i 0)) → (i : ℕ) → P (get_or xs i 0)
+each_or_none : (P : ℕ → Type 0) (xs : List ℕ) → P 0 → ((i : ℕ) → i < length xs → P (get_or xs i 0)) → (i : ℕ)
+    → P (get_or xs i 0)
 each_or_none P xs none each i = ⊎_elim (λ lt. each i lt) (λ past. subst P (sym (get_or_past xs i 0 past)) none) (cases_lt i (length xs))
 
 -- a fact of each move
 each_move : (l : LineData) (P : ℕ → Type 0) (xs : List ℕ) → IsLine l → length xs ≡ move_count l
-    → ((c k : ℕ) → c < l.degree → k < last_stage l → P (get_or xs (move_number l c k) 0)) → (i : ℕ) → i < length xs → P (get_or xs i 0)
+    → ((c k : ℕ) → c < l.degree → k < last_stage l → P (get_or xs (move_number l c k) 0)) → (i : ℕ) → i < length xs
+    → P (get_or xs i 0)
 each_move l P xs line count each i lt =
     let there = move_there l i line (omega arith) in
     let step = there.1 in

@@ -57,7 +57,8 @@ pub record KeepsEach (l : LineData) (f : Frame) : Type 0 where
   pub carries : (h : ℕ) → h < l.hoists → CarryKeeps (layout_of l) (scene_of f) h
   pub holds : (i : ℕ) → i < length l.tanks → HoldKeeps (layout_of l) (scene_of f) i
   pub carry_alone : (h : ℕ) → h < length f.carry.items → CarriesAlone (scene_of f) (length f.carry.items) h
-  pub rest_alone : (i : ℕ) → i < length f.hold.items → RestsAlone (scene_of f) (length f.carry.items) (length f.hold.items) i
+  pub rest_alone : (i : ℕ) → i < length f.hold.items
+      → RestsAlone (scene_of f) (length f.carry.items) (length f.hold.items) i
 
 pub frame_from : (l : LineData) (f : Frame) → IsSized l f → KeepsEach l f → IsFrame l f
 frame_from l f sized each = record {
@@ -68,7 +69,8 @@ frame_from l f sized each = record {
     holds = λ i x e. let lt = hold_there f i x e in let n = sized.hold in (each.holds i (omega arith)).keeps x e;
     one_hoist = λ h h' y y' e e' same. ((each.carry_alone h' (carry_there f h' y' e')).alone y' e' h (carry_there f h y e)).at y e same;
     one_rest = λ c i i' (k, age, e) (k', age', e').
-        ((each.rest_alone i' (hold_there f i' (hold_of c k' (Resting age')) e')).alone c k' age' e' i (hold_there f i (hold_of c k (Resting age)) e)).at k age e;
+        ((each.rest_alone i' (hold_there f i' (hold_of c k' (Resting age')) e')).alone c k' age' e' i
+        (hold_there f i (hold_of c k (Resting age)) e)).at k age e;
     not_both = λ c i h y (k, age, e) has same.
         ((each.rest_alone i (hold_there f i (hold_of c k (Resting age)) e)).not_carried c k age e h (carry_there f h y has)).not y has same;
   };

@@ -52,7 +52,8 @@ still_in l period frames (suc n) t c run put there =
     (in_before (layout_of l) (frames (t + n)) (frames (suc (t + n))) c (run.passes (t + n)) (subst (λ (x : ℕ). IsIn (frames x) c) e there))
 
 -- a carrier that is taken off doesn't come again
-pub before_off : (l : LineData) (period : ℕ) (frames : ℕ → Scene) (c off s : ℕ) → Unrolled l period frames → IsOffAt frames c off
+pub before_off : (l : LineData) (period : ℕ) (frames : ℕ → Scene) (c off s : ℕ) → Unrolled l period frames
+    → IsOffAt frames c off
     → IsIn (frames s) c → s < off
 before_off l period frames c zero s run off there = absurd off
 before_off l period frames c (suc u) s run off there =
@@ -66,7 +67,8 @@ before_off l period frames c (suc u) s run off there =
     (cases_lt s (suc u))
 
 -- the last tick at which one of the timetable's carriers is in the line
-pub in_line_soon : (l : LineData) (period : ℕ) (frames : ℕ → Scene) (c s : ℕ) → Unrolled l period frames → period ≤ 20000
+pub in_line_soon : (l : LineData) (period : ℕ) (frames : ℕ → Scene) (c s : ℕ) → Unrolled l period frames
+    → period ≤ 20000
     → c < l.degree → IsIn (frames s) ((frames 0).next + c) → s < 1480000
 in_line_soon l period frames c s run few lt there =
     let lives = life l period frames c run in
@@ -80,21 +82,25 @@ in_line_soon l period frames c s run few lt there =
     omega arith
 
 -- the frames that are read
-pub run_of : (l : LineData) (frames : List Frame) → IsLine l → IsReadable l frames → Unrolled l (length frames) (for_ever l frames)
+pub run_of : (l : LineData) (frames : List Frame) → IsLine l → IsReadable l frames
+    → Unrolled l (length frames) (for_ever l frames)
 run_of l frames line loop = unrolled l (length frames) (scenes frames) line loop.loop
 
-pub copy_frame : (l : LineData) (period : ℕ) (frames : ℕ → Scene) (t z : ℕ) → t < period → frame_at l period frames (t + z * period) ≡ raised (z * l.degree) (frames t)
+pub copy_frame : (l : LineData) (period : ℕ) (frames : ℕ → Scene) (t z : ℕ) → t < period
+    → frame_at l period frames (t + z * period) ≡ raised (z * l.degree) (frames t)
 copy_frame l period frames t z lt =
     let e : t + z * period ≡ z * period + t = omega arith in
     ap (frame_at l period frames) e ∙ in_period l period frames z t lt
 
-pub first_period : (l : LineData) (period : ℕ) (frames : ℕ → Scene) (t : ℕ) → t < period → frame_at l period frames t ≡ frames t
+pub first_period : (l : LineData) (period : ℕ) (frames : ℕ → Scene) (t : ℕ) → t < period
+    → frame_at l period frames t ≡ frames t
 first_period l period frames t lt =
     let e : t ≡ t + 0 * period = omega arith in
     let none : 0 * l.degree ≡ 0 = omega arith in
     ap (frame_at l period frames) e ∙ copy_frame l period frames t 0 lt ∙ ap (λ (d : ℕ). raised d (frames t)) none ∙ raised_none (frames t)
 
-pub next_is : (l : LineData) (frames : List Frame) (t : ℕ) → t < length frames → (for_ever l frames t).next ≡ (scenes frames t).next
+pub next_is : (l : LineData) (frames : List Frame) (t : ℕ) → t < length frames
+    → (for_ever l frames t).next ≡ (scenes frames t).next
 next_is l frames t lt = ap (λ (f : Scene). f.next) (first_period l (length frames) (scenes frames) t lt)
 
 -- carriers in the line are known in the period
@@ -111,8 +117,10 @@ known_soon l frames t d line loop lt there =
     omega arith
 
 -- at its turn the carrier is in the line
-pub seen_in : (l : LineData) (frames : List Frame) (t d : ℕ) (seen : Seen) → IsLine l → IsReadable l frames → t < length frames
-    → IsIn (scenes frames t) d → IsSeen l frames t d seen → IsIn (for_ever l frames seen.tick) ((for_ever l frames 0).next + seen.carrier)
+pub seen_in : (l : LineData) (frames : List Frame) (t d : ℕ) (seen : Seen) → IsLine l → IsReadable l frames
+    → t < length frames
+    → IsIn (scenes frames t) d → IsSeen l frames t d seen
+    → IsIn (for_ever l frames seen.tick) ((for_ever l frames 0).next + seen.carrier)
 seen_in l frames t d seen line loop lt there is =
     let z = is.periods in
     let first = next_is l frames 0 (omega arith) in
@@ -121,14 +129,16 @@ seen_in l frames t d seen line loop lt there is =
     let who : d + z * l.degree ≡ (for_ever l frames 0).next + seen.carrier = omega arith in
     subst (λ (c : ℕ). IsIn (for_ever l frames seen.tick) c) who
     (subst (λ (s : ℕ). IsIn (for_ever l frames s) (d + z * l.degree)) (sym tick)
-    (subst (λ (f : Scene). IsIn f (d + z * l.degree)) (sym (copy_frame l (length frames) (scenes frames) t z lt)) (raised_in (z * l.degree) (scenes frames t) d there)))
+    (subst (λ (f : Scene). IsIn f (d + z * l.degree)) (sym (copy_frame l (length frames) (scenes frames) t z lt))
+    (raised_in (z * l.degree) (scenes frames t) d there)))
 
 pub turn_soon : (l : LineData) (frames : List Frame) (t d c z : ℕ) → IsLine l → IsReadable l frames → t < length frames
     → IsIn (scenes frames t) d → IsTurn l.degree (scenes frames 0).next d c z → t + z * length frames < 1480000
 turn_soon l frames t d c z line loop lt there turn =
     let seen : Seen = record { carrier = c; tick = t + z * length frames } in
     let is : IsSeen l frames t d seen = record { periods = z; turn = turn; tick = refl } in
-    in_line_soon l (length frames) (for_ever l frames) c (t + z * length frames) (run_of l frames line loop) loop.few turn.there (seen_in l frames t d seen line loop lt there is)
+    in_line_soon l (length frames) (for_ever l frames) c (t + z * length frames)
+    (run_of l frames line loop) loop.few turn.there (seen_in l frames t d seen line loop lt there is)
 
 -- a carrier has one turn
 pub one_turn : (l : LineData) (frames : List Frame) (d c s : ℕ) (seen : Seen) → 1 ≤ length frames → c < l.degree

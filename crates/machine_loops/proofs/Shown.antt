@@ -25,12 +25,14 @@ carry_of frames p c k = record { carrier = (frames 0).next + c; step = k; elapse
 abbrev pub ticks : LineData → (ℕ → Scene) → Timetable → ℕ → ℕ → ℕ
 ticks l frames p c k = length_of (layout_of l) (carry_of frames p c k)
 
-begins : (l : LineData) (period : ℕ) (frames : ℕ → Scene) (p : Timetable) (c k : ℕ) → IsShown l period frames p → c < l.degree
+begins : (l : LineData) (period : ℕ) (frames : ℕ → Scene) (p : Timetable) (c k : ℕ) → IsShown l period frames p
+    → c < l.degree
     → k < last_stage l → Begins frames (p.start c k) (p.hoist c k) (carry_of frames p c k)
 begins l period frames p c k shown there step = record { is = shown.shows.begin c k there step; new = refl }
 
 -- it goes on until its last tick
-goes_on : (l : LineData) (period : ℕ) (frames : ℕ → Scene) (u t h : ℕ) (y : Carry) → Unrolled l period frames → Begins frames t h y → u < length_of (layout_of l) y → (frames (t + u)).carry h ≡ Some (record y { elapsed = u })
+goes_on : (l : LineData) (period : ℕ) (frames : ℕ → Scene) (u t h : ℕ) (y : Carry) → Unrolled l period frames
+    → Begins frames t h y → u < length_of (layout_of l) y → (frames (t + u)).carry h ≡ Some (record y { elapsed = u })
 goes_on l period frames zero t h y run begins lt =
     let e : t ≡ t + 0 = omega arith in
     ap (λ (n : ℕ). (frames n).carry h) (sym e) ∙ begins.is ∙ ap (λ (n : ℕ). Some (record y { elapsed = n })) begins.new
@@ -45,7 +47,8 @@ goes_on l period frames (suc u) t h y run begins lt =
 pub carries : (l : LineData) (period : ℕ) (frames : ℕ → Scene) (p : Timetable) (c k u : ℕ) → IsShown l period frames p
     → c < l.degree → k < last_stage l → u < ticks l frames p c k
     → (frames (p.start c k + u)).carry (p.hoist c k) ≡ Some (record (carry_of frames p c k) { elapsed = u })
-carries l period frames p c k u shown there step lt = goes_on l period frames u (p.start c k) (p.hoist c k) (carry_of frames p c k) shown.run (begins l period frames p c k shown there step) lt
+carries l period frames p c k u shown there step lt = goes_on l period frames u (p.start c k) (p.hoist c k)
+    (carry_of frames p c k) shown.run (begins l period frames p c k shown there step) lt
 
 -- the carrier rests in tank i at stage k from tick a up to and without tick b
 pub record Rested (l : Layout) (frames : ℕ → Scene) (i c k a b : ℕ) : Type 0 where
@@ -70,7 +73,8 @@ pub rested_first : (l : LineData) (period : ℕ) (frames : ℕ → Scene) (p : T
     → Rested (layout_of l) frames (p.tank c 0) ((frames 0).next + c) 0 (p.put c) (p.start c 0)
 rested_first l period frames p c shown there step =
     let n = (frames 0).next + c in
-    let b = begin_stay l period frames (p.start c 0) (p.hoist c 0) (carry_of frames p c 0) shown.run (omega arith) (begins l period frames p c 0 shown there step) in
+    let b = begin_stay l period frames (p.start c 0) (p.hoist c 0) (carry_of frames p c 0) shown.run (omega arith)
+    (begins l period frames p c 0 shown there step) in
     let put = put_before frames n (p.put c) (shown.shows.put c there) in
     let stay = b.stay in
     let since = stay.since in
@@ -94,7 +98,8 @@ record Comes (l : LineData) (frames : ℕ → Scene) (p : Timetable) (s i c k : 
   tick : suc s ≡ p.start c k + ticks l frames p c k
   tank : p.tank c (k + 1) ≡ i
 
-comes_next : (l : LineData) (period : ℕ) (frames : ℕ → Scene) (p : Timetable) (c k t i age : ℕ) → IsShown l period frames p
+comes_next : (l : LineData) (period : ℕ) (frames : ℕ → Scene) (p : Timetable) (c k t i age : ℕ)
+    → IsShown l period frames p
     → c < l.degree → k < last_stage l
     → (stay : Stays (layout_of l) frames t i ((frames 0).next + c) (k + 1) age) → Comes l frames p stay.s i c k
 comes_next l period frames p c k t i age shown there step stay =
@@ -105,7 +110,8 @@ comes_next l period frames p c k t i age shown there step stay =
     let carrier = b.carrier in
     let stage = b.step in
     let here = begins l period frames p c k shown there step in
-    let same = one_begin l period frames b.u (p.start c k) b.h (p.hoist c k) b.y (carry_of frames p c k) shown.run (omega arith) b.begins here b.carrier (omega arith) in
+    let same = one_begin l period frames b.u (p.start c k) b.h (p.hoist c k) b.y (carry_of frames p c k) shown.run
+    (omega arith) b.begins here b.carrier (omega arith) in
     let long = b.long in
     let tick = same.tick in
     let ticks : length_of (layout_of l) b.y ≡ ticks l frames p c k = ap (length_of (layout_of l)) same.carry in
@@ -126,7 +132,8 @@ pub rested_next : (l : LineData) (period : ℕ) (frames : ℕ → Scene) (p : Ti
     → RestedNext (layout_of l) frames (p.tank c (k + 1)) ((frames 0).next + c) (k + 1) (p.start c k + ticks l frames p c k) (p.start c (k + 1))
 rested_next l period frames p c k shown there step =
     let n = (frames 0).next + c in
-    let b = begin_stay l period frames (p.start c (k + 1)) (p.hoist c (k + 1)) (carry_of frames p c (k + 1)) shown.run (omega arith) (begins l period frames p c (k + 1) shown there step) in
+    let b = begin_stay l period frames (p.start c (k + 1)) (p.hoist c (k + 1)) (carry_of frames p c (k + 1)) shown.run
+    (omega arith) (begins l period frames p c (k + 1) shown there step) in
     let stay = b.stay in
     let comes = comes_next l period frames p c k (p.start c (k + 1)) (p.tank c (k + 1)) b.age shown there (omega arith) stay in
     let since = stay.since in
@@ -154,7 +161,8 @@ rested_last l period frames p c k shown there last =
     let n = (frames 0).next + c in
     let (s, is, off) = taken l period frames n (p.off c) shown.run (shown.shows.off c there) in
     let stay = stays l period frames off.age s off.i n (last_stage l) shown.run (omega arith) off.comes in
-    let to_last : Stays (layout_of l) frames (suc s) off.i n (k + 1) off.age = subst (λ (j : ℕ). Stays (layout_of l) frames (suc s) off.i n j off.age) (sym last) stay in
+    let to_last : Stays (layout_of l) frames (suc s) off.i n (k + 1) off.age = subst
+    (λ (j : ℕ). Stays (layout_of l) frames (suc s) off.i n j off.age) (sym last) stay in
     let comes = comes_next l period frames p c k (suc s) off.i off.age shown there (omega arith) to_last in
     let since = to_last.since in
     let tick = comes.tick in

@@ -45,7 +45,8 @@ pub some_same : {A : Type 0} (a b : A) → Some a ≡ Some b → a ≡ b
 some_same a b e = let g = e in cc
 
 -- what rests in a tank after a write is what was written, or rested there before
-pub written_rest : (hold : ℕ → Option Hold) (j : ℕ) (v : Option Hold) (i c k age : ℕ) → with hold j v i ≡ Some (hold_of c k (Resting age))
+pub written_rest : (hold : ℕ → Option Hold) (j : ℕ) (v : Option Hold) (i c k age : ℕ)
+    → with hold j v i ≡ Some (hold_of c k (Resting age))
     → ((j ≡ i) × (v ≡ Some (hold_of c k (Resting age)))) ⊎ (hold i ≡ Some (hold_of c k (Resting age)))
 written_rest hold j v i c k age e =
     ⊎_elim
@@ -58,7 +59,8 @@ cleared_rest : (hold : ℕ → Option Hold) (j i c k age : ℕ) → with hold j 
 cleared_rest hold j i c k age e = ⊎_elim (λ (here, none). absurd (let g = none in cc)) (λ was. was) (written_rest hold j None i c k age e)
 
 moving_rest : (hold : ℕ → Option Hold) (j d m : ℕ) (r : Rest) (i c k age : ℕ) → (r ≡ Resting age → ⊥)
-    → with hold j (Some (hold_of d m r)) i ≡ Some (hold_of c k (Resting age)) → hold i ≡ Some (hold_of c k (Resting age))
+    → with hold j (Some (hold_of d m r)) i ≡ Some (hold_of c k (Resting age))
+    → hold i ≡ Some (hold_of c k (Resting age))
 moving_rest hold j d m r i c k age moving e =
     ⊎_elim
     (λ (here, same). absurd (moving (ap (λ (w : Hold). w.rest) (some_same (hold_of d m r) (hold_of c k (Resting age)) same))))
@@ -82,7 +84,8 @@ pub record SetTurn (l : Layout) (t g : Scene) : Type 0 where
   pub next : g.next ≡ t.next
   pub at : g.at ≡ t.at
 
-pub set_turn : (l : Layout) (t : Scene) (h : ℕ) (g : Scene) (o : Option Carry) → SetTurn l t g → g.carry h ≡ o → SetTurn l t (set_down_by l h o g)
+pub set_turn : (l : Layout) (t : Scene) (h : ℕ) (g : Scene) (o : Option Carry) → SetTurn l t g → g.carry h ≡ o
+    → SetTurn l t (set_down_by l h o g)
 set_turn l t h g None turn has = turn
 set_turn l t h g (Some y) turn has =
     let v : Option Hold = Some (hold_of y.carrier (y.step + 1) (Resting 0)) in
@@ -192,18 +195,21 @@ pub record Started (l : Layout) (m : Scene) (x : Carry) : Type 0 where
   pub rests : Rests m x.from x.carrier x.step age
   pub old_enough : l.least x.step ≤ age
 
-passed : (a b d : Bool) (p q r : Breach) (x y : Carry) → cond a (cond b (cond d (Err p) (Ok x)) (Err q)) (Err r) ≡ Ok y → (d ≡ false) × (x ≡ y)
+passed : (a b d : Bool) (p q r : Breach) (x y : Carry) → cond a (cond b (cond d (Err p) (Ok x)) (Err q)) (Err r) ≡ Ok y
+    → (d ≡ false) × (x ≡ y)
 passed true true false p q r x y e = (refl, let g = e in cc)
 passed true true true p q r x y e = absurd (let g = e in cc)
 passed true false d p q r x y e = absurd (let g = e in cc)
 passed false b d p q r x y e = absurd (let g = e in cc)
 
-started_rest : (l : Layout) (h at from to : ℕ) (f : Scene) (y : Hold) (r : Rest) (x : Carry) → f.hold from ≡ Some y → y.rest ≡ r
+started_rest : (l : Layout) (h at from to : ℕ) (f : Scene) (y : Hold) (r : Rest) (x : Carry) → f.hold from ≡ Some y
+    → y.rest ≡ r
     → begin_rest l h at from to y r ≡ Ok x → Started l f x
 started_rest l h at from to f y Lowering x held rest e = absurd (let g = e in cc)
 started_rest l h at from to f y (Resting age) x held rest e =
     let new : Carry = record { carrier = y.carrier; step = y.stage; elapsed = 0; from = from; to = to } in
-    let (old, is) = passed (nat_lt y.stage l.last) (l.serves to (y.stage + 1)) (nat_lt age (l.least y.stage)) (Early y.carrier y.stage age (l.least y.stage)) (NoWay h to) (NoMove y.carrier y.stage) new x e in
+    let (old, is) = passed (nat_lt y.stage l.last) (l.serves to (y.stage + 1)) (nat_lt age (l.least y.stage))
+    (Early y.carrier y.stage age (l.least y.stage)) (NoWay h to) (NoMove y.carrier y.stage) new x e in
     let rests : Rests f from y.carrier y.stage age = held ∙ ap (λ (w : Hold). Some w) (hold_is y y.carrier y.stage (Resting age) refl refl rest) in
     subst (λ (z : Carry). Started l f z) is (record { age = age; new = refl; rests = rests; old_enough = ltb-false age (l.least y.stage) old })
 started_rest l h at from to f y Lifting x held rest e = absurd (let g = e in cc)
@@ -213,7 +219,8 @@ started_hold : (l : Layout) (h at from to : ℕ) (f : Scene) (o : Option Hold) (
 started_hold l h at from to f None x held e = absurd (let g = e in cc)
 started_hold l h at from to f (Some y) x held e = started_rest l h at from to f y y.rest x held refl e
 
-pub started_tank : (l : Layout) (h at to : ℕ) (o : Option ℕ) (f : Scene) (x : Carry) → begin_tank l h at to o f ≡ Ok x → Started l f x
+pub started_tank : (l : Layout) (h at to : ℕ) (o : Option ℕ) (f : Scene) (x : Carry) → begin_tank l h at to o f ≡ Ok x
+    → Started l f x
 started_tank l h at to None f x e = absurd (let g = e in cc)
 started_tank l h at to (Some from) f x e = started_hold l h at from to f (f.hold from) x refl e
 
@@ -263,13 +270,15 @@ aged_rest (Resting a) age e =
     (a, refl, omega arith)
 aged_rest Lifting age e = absurd (let g = e in cc)
 
-pub rested : (l : Layout) (o : Command) (f : Scene) (i c k age : ℕ) → Rests (after_tick l o f) i c k age → (a : ℕ) × Rests f i c k a × (age ≡ suc a)
+pub rested : (l : Layout) (o : Command) (f : Scene) (i c k age : ℕ) → Rests (after_tick l o f) i c k age
+    → (a : ℕ) × Rests f i c k a × (age ≡ suc a)
 rested l o f i c k age e =
     let g = aged_from (f.hold i) (hold_of c k (Resting age)) e in
     let (a, resting, older) = aged_rest g.x.rest age (ap (λ (w : Hold). w.rest) g.is) in
     (a, g.was ∙ ap (λ (w : Hold). Some w) (hold_is g.x c k (Resting a) (ap (λ (w : Hold). w.carrier) g.is) (ap (λ (w : Hold). w.stage) g.is) resting), older)
 
-pub freed : (l : Layout) (o : Command) (f : Scene) → Kept (each (set_down l) l.hoists (after_tick l o f)) (after_free l o f)
+pub freed : (l : Layout) (o : Command) (f : Scene)
+    → Kept (each (set_down l) l.hoists (after_tick l o f)) (after_free l o f)
 freed l o f =
     let s : Scene = each (set_down l) l.hoists (after_tick l o f) in
     each_holds (λ h g. Kept s g) (lift_out l) l.hoists s (kept_all s) (λ h g lt kept. free_kept l s g (g.carry h) kept)
@@ -280,7 +289,8 @@ lowered l o f =
     each_holds (λ h g. Kept s g) (lower_in l) l.hoists s (kept_all s) (λ h g lt kept. low_kept l s g (g.carry h) kept)
 
 -- who rests before point 6 has been set down at this tick, or rested before it
-pub came_free : (l : Layout) (o : Command) (f g : Scene) (i c k age : ℕ) → Rests (after_free l o f) i c k age → Comes l f g i c k age
+pub came_free : (l : Layout) (o : Command) (f g : Scene) (i c k age : ℕ) → Rests (after_free l o f) i c k age
+    → Comes l f g i c k age
 came_free l o f g i c k age e =
     ⊎_elim
     (λ (ended, young).
@@ -301,7 +311,8 @@ came_free l o f g i c k age e =
     ((set_all l (after_tick l o f)).rests i c k age ((freed l o f).rests i c k age e))
 
 -- who rests before point 9 has come to rest at this tick, or rested before it
-pub came : (l : Layout) (o : Command) (f : Scene) (i c k age : ℕ) → Rests (after_lowering l o f) i c k age → Comes l f (after_begin l o f) i c k age
+pub came : (l : Layout) (o : Command) (f : Scene) (i c k age : ℕ) → Rests (after_lowering l o f) i c k age
+    → Comes l f (after_begin l o f) i c k age
 came l o f i c k age e =
     let g : Scene = after_begin l o f in
     let low = lowered l o f in

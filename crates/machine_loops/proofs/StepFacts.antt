@@ -56,11 +56,15 @@ moved_near l (Some y) go at way =
 
 -- points 4 to 9 move no hoist
 put_stands : (l : Layout) (o : Command) (f : Scene) → (put_on l o f).at ≡ f.at
-put_stands l o f = cond_both o.put (record f { hold = with f.hold l.load_tank (Some (hold_of f.next 0 (Resting 0))); next = f.next + 1 }) f (λ s. s.at ≡ f.at) (λ e. refl) (λ e. refl)
+put_stands l o f = cond_both o.put (record f {
+  hold = with f.hold l.load_tank (Some (hold_of f.next 0 (Resting 0)));
+  next = f.next + 1;
+}) f (λ s. s.at ≡ f.at) (λ e. refl) (λ e. refl)
 
 stands : (l : Layout) (o : Command) (f : Scene) → (after_begin l o f).at ≡ (after_tick l o f).at
 stands l o f =
-    (begin_all l o (after_lowering l o f)).at ∙ (lowered l o f).at ∙ put_stands l o (after_off l o f) ∙ (off_kept l o (after_free l o f)).at ∙ (freed l o f).at ∙ (set_all l (after_tick l o f)).at
+    (begin_all l o (after_lowering l o f)).at ∙ (lowered l o f).at ∙ put_stands l o (after_off l o f)
+    ∙ (off_kept l o (after_free l o f)).at ∙ (freed l o f).at ∙ (set_all l (after_tick l o f)).at
 
 -- the next carrier
 off_next : (l : Layout) (o : Command) (f : Scene) → (after_off l o f).next ≡ f.next
@@ -71,10 +75,14 @@ end_next l o f = (begin_all l o (after_lowering l o f)).next ∙ (lowered l o f)
 
 put_next : (l : Layout) (o : Command) (s : Scene) → ((put_on l o s).next ≡ s.next) ⊎ ((put_on l o s).next ≡ s.next + 1)
 put_next l o s =
-    cond_both o.put (record s { hold = with s.hold l.load_tank (Some (hold_of s.next 0 (Resting 0))); next = s.next + 1 }) s (λ x. (x.next ≡ s.next) ⊎ (x.next ≡ s.next + 1)) (λ e. inr refl) (λ e. inl refl)
+    cond_both o.put (record s {
+      hold = with s.hold l.load_tank (Some (hold_of s.next 0 (Resting 0)));
+      next = s.next + 1;
+    }) s (λ x. (x.next ≡ s.next) ⊎ (x.next ≡ s.next + 1)) (λ e. inr refl) (λ e. inl refl)
 
 -- point 10
-young_if : (x : Hold) (age m : ℕ) (b : Bool) → nat_lt m age ≡ b → cond b (Some (Late x.carrier x.stage age m)) None ≡ None → age ≤ m
+young_if : (x : Hold) (age m : ℕ) (b : Bool) → nat_lt m age ≡ b
+    → cond b (Some (Late x.carrier x.stage age m)) None ≡ None → age ≤ m
 young_if x age m true is none = absurd (let g = none in cc)
 young_if x age m false is none = ltb-false m age is
 

@@ -51,7 +51,8 @@ busy_ends h to false Stay none = absurd (let g = none in cc)
 busy_ends h to false Low none = absurd (let g = none in cc)
 busy_ends h to false High none = absurd (let g = none in cc)
 
-pub carry_ends : (l : Layout) (o : Command) (f : Scene) (h to : ℕ) (x : Carry) → busy l o f h ≡ None → o.begin h ≡ Some to
+pub carry_ends : (l : Layout) (o : Command) (f : Scene) (h to : ℕ) (x : Carry) → busy l o f h ≡ None
+    → o.begin h ≡ Some to
     → f.carry h ≡ Some x → x.elapsed + 1 ≡ length_of l x
 carry_ends l o f h to x none is has =
     let a : busy_carry l h (Some x) (o.go h) (Some to) ≡ None =
@@ -64,27 +65,37 @@ set_goes_on : (l : Layout) (h : ℕ) (z : Carry) (h' : ℕ) (g : Scene) (q : Opt
     → g.carry h ≡ Some z → g.carry h' ≡ q → (set_down_by l h' q g).carry h ≡ Some z
 set_goes_on l h z h' g None going has is = has
 set_goes_on l h z h' g (Some x) going has is =
-    cond_both (x.elapsed == length_of l x) (record g { carry = with g.carry h' None; hold = with g.hold x.to (Some (hold_of x.carrier (x.step + 1) (Resting 0))) }) g (λ s. s.carry h ≡ Some z)
+    cond_both (x.elapsed == length_of l x) (record g {
+      carry = with g.carry h' None;
+      hold = with g.hold x.to (Some (hold_of x.carrier (x.step + 1) (Resting 0)));
+    }) g (λ s. s.carry h ≡ Some z)
     (λ ends. with_other g.carry h' None h (λ same.
     let one : x ≡ z = let a = ap g.carry same in let b = is in let d = has in cc in
     going (ap (λ (y : Carry). y.elapsed) (sym one) ∙ eqb-true x.elapsed (length_of l x) ends ∙ ap (length_of l) one)) ∙ has)
     (λ other. has)
 
-free_goes_on : (l : Layout) (h : ℕ) (z : Carry) (g : Scene) (q : Option Carry) → g.carry h ≡ Some z → (lift_out_by l q g).carry h ≡ Some z
+free_goes_on : (l : Layout) (h : ℕ) (z : Carry) (g : Scene) (q : Option Carry) → g.carry h ≡ Some z
+    → (lift_out_by l q g).carry h ≡ Some z
 free_goes_on l h z g None has = has
-free_goes_on l h z g (Some x) has = cond_both (x.elapsed == l.lift x.step) (record g { hold = with g.hold x.from None }) g (λ s. s.carry h ≡ Some z) (λ e. has) (λ e. has)
+free_goes_on l h z g (Some x) has = cond_both (x.elapsed == l.lift x.step)
+    (record g { hold = with g.hold x.from None }) g (λ s. s.carry h ≡ Some z) (λ e. has) (λ e. has)
 
-low_goes_on : (l : Layout) (h : ℕ) (z : Carry) (g : Scene) (q : Option Carry) → g.carry h ≡ Some z → (lower_in_by l q g).carry h ≡ Some z
+low_goes_on : (l : Layout) (h : ℕ) (z : Carry) (g : Scene) (q : Option Carry) → g.carry h ≡ Some z
+    → (lower_in_by l q g).carry h ≡ Some z
 low_goes_on l h z g None has = has
 low_goes_on l h z g (Some x) has =
-    cond_both (lowers_now l x) (record g { hold = with g.hold x.to (Some (hold_of x.carrier (x.step + 1) Lowering)) }) g (λ s. s.carry h ≡ Some z) (λ e. has) (λ e. has)
+    cond_both (lowers_now l x) (record g { hold = with g.hold x.to (Some (hold_of x.carrier (x.step + 1) Lowering)) }) g
+    (λ s. s.carry h ≡ Some z) (λ e. has) (λ e. has)
 
 off_goes_on : (l : Layout) (o : Command) (h : ℕ) (g : Scene) → (taken_off l o g).carry h ≡ g.carry h
 off_goes_on l o h g = cond_both o.off (record g { hold = with g.hold l.unload_tank None }) g (λ s. s.carry h ≡ g.carry h) (λ e. refl) (λ e. refl)
 
 put_goes_on : (l : Layout) (o : Command) (h : ℕ) (g : Scene) → (put_on l o g).carry h ≡ g.carry h
 put_goes_on l o h g =
-    cond_both o.put (record g { hold = with g.hold l.load_tank (Some (hold_of g.next 0 (Resting 0))); next = g.next + 1 }) g (λ s. s.carry h ≡ g.carry h) (λ e. refl) (λ e. refl)
+    cond_both o.put (record g {
+      hold = with g.hold l.load_tank (Some (hold_of g.next 0 (Resting 0)));
+      next = g.next + 1;
+    }) g (λ s. s.carry h ≡ g.carry h) (λ e. refl) (λ e. refl)
 
 carrying_goes_on : (h h' : ℕ) (z : Carry) (g : Scene) (r : Result Carry Breach) → (h' ≡ h → ⊥) → g.carry h ≡ Some z
     → (carrying h' r g).carry h ≡ Some z
@@ -96,16 +107,19 @@ begin_goes_on : (l : Layout) (h h' : ℕ) (z : Carry) (g : Scene) (q : Option �
 begin_goes_on l h h' z g None other has = has
 begin_goes_on l h h' z g (Some to) other has = carrying_goes_on h h' z g (begun l h' to g) (other to refl) has
 
-pub carries_on : (l : Layout) (o : Command) (f g : Scene) (h : ℕ) (y : Carry) → Tests l o f g → h < l.hoists → f.carry h ≡ Some y
+pub carries_on : (l : Layout) (o : Command) (f g : Scene) (h : ℕ) (y : Carry) → Tests l o f g → h < l.hoists
+    → f.carry h ≡ Some y
     → y.elapsed + 1 < length_of l y → (after_begin l o f).carry h ≡ Some (grown y)
 carries_on l o f g h y tests there has going =
     let z : Carry = grown y in
     let t : Scene = after_tick l o f in
     let long : length_of l z ≡ length_of l y = refl in
     let set : (each (set_down l) l.hoists t).carry h ≡ Some z =
-    partway.each_holds (λ n s. s.carry h ≡ Some z) (set_down l) l.hoists t (ap (option_map grown) has) (λ n s lt is. set_goes_on l h z n s (s.carry n) (λ e. omega arith) is refl) in
+    partway.each_holds (λ n s. s.carry h ≡ Some z) (set_down l) l.hoists t (ap (option_map grown) has)
+    (λ n s lt is. set_goes_on l h z n s (s.carry n) (λ e. omega arith) is refl) in
     let free : (after_free l o f).carry h ≡ Some z =
-    partway.each_holds (λ n s. s.carry h ≡ Some z) (lift_out l) l.hoists (each (set_down l) l.hoists t) set (λ n s lt is. free_goes_on l h z s (s.carry n) is) in
+    partway.each_holds (λ n s. s.carry h ≡ Some z) (lift_out l) l.hoists (each (set_down l) l.hoists t) set
+    (λ n s lt is. free_goes_on l h z s (s.carry n) is) in
     let put : (after_put l o f).carry h ≡ Some z = put_goes_on l o h (after_off l o f) ∙ off_goes_on l o h (after_free l o f) ∙ free in
     let low : (after_lowering l o f).carry h ≡ Some z =
     partway.each_holds (λ n s. s.carry h ≡ Some z) (lower_in l) l.hoists (after_put l o f) put (λ n s lt is. low_goes_on l h z s (s.carry n) is) in
@@ -115,7 +129,8 @@ carries_on l o f g h y tests there has going =
     omega arith) is)
 
 -- what is carried at the end of a step has begun at this tick, or was carried before it
-pub carried_before : (l : Layout) (o : Command) (f : Scene) (h : ℕ) (y : Carry) → (after_lowering l o f).carry h ≡ Some y
+pub carried_before : (l : Layout) (o : Command) (f : Scene) (h : ℕ) (y : Carry)
+    → (after_lowering l o f).carry h ≡ Some y
     → (after_free l o f).carry h ≡ Some y
 carried_before l o f h y e = sym (off_goes_on l o h (after_free l o f)) ∙ sym (put_goes_on l o h (after_off l o f)) ∙ (lowered l o f).carry h y e
 

@@ -30,7 +30,8 @@ pub record TakenOff (l : Layout) (f g : Scene) (c : ℕ) : Type 0 where
   pub old_enough : l.least l.last ≤ age
 
 -- two values of a tank that differ in how it is held
-apart : (c d k m : ℕ) (r s : Rest) (o : Option Hold) → (r ≡ s → ⊥) → o ≡ Some (hold_of c k r) → o ≡ Some (hold_of d m s) → ⊥
+apart : (c d k m : ℕ) (r s : Rest) (o : Option Hold) → (r ≡ s → ⊥) → o ≡ Some (hold_of c k r) → o ≡ Some (hold_of d m s)
+    → ⊥
 apart c d k m r s o differ a b = differ (ap (λ (w : Hold). w.rest) (some_same (hold_of c k r) (hold_of d m s) (sym a ∙ b)))
 
 -- the tank where a carry ends was lowered into, and the one that a carrier is lifted out of was held until now
@@ -46,7 +47,8 @@ landing l o f h y layout rules is ends =
     let low = (layout.lower x.step r.step).0 in
     subst (λ (z : Carry). f.hold z.to ≡ Some (hold_of z.carrier (z.step + 1) Lowering)) was.is (r.lowering.1 (omega arith))
 
-leaving : (l : Layout) (o : Command) (f : Scene) (h : ℕ) (y : Carry) → KeepsRules l f → (after_tick l o f).carry h ≡ Some y
+leaving : (l : Layout) (o : Command) (f : Scene) (h : ℕ) (y : Carry) → KeepsRules l f
+    → (after_tick l o f).carry h ≡ Some y
     → y.elapsed ≡ l.lift y.step → f.hold y.from ≡ Some (hold_of y.carrier y.step Lifting)
 leaving l o f h y rules is lifted =
     let was = grown_from (f.carry h) y is in
@@ -62,7 +64,9 @@ one_lands : (l : Layout) (o : Command) (f : Scene) (h h' : ℕ) (y y' : Carry) �
 one_lands l o f h h' y y' layout rules is is' ends ends' same =
     let a = landing l o f h y layout rules is ends in
     let b = landing l o f h' y' layout rules is' ends' in
-    let carrier : y'.carrier ≡ y.carrier = ap (λ (w : Hold). w.carrier) (some_same (hold_of y'.carrier (y'.step + 1) Lowering) (hold_of y.carrier (y.step + 1) Lowering) (sym b ∙ ap f.hold same ∙ a)) in
+    let carrier : y'.carrier ≡ y.carrier = ap (λ (w : Hold). w.carrier)
+    (some_same (hold_of y'.carrier (y'.step + 1) Lowering) (hold_of y.carrier (y.step + 1) Lowering)
+    (sym b ∙ ap f.hold same ∙ a)) in
     let was = grown_from (f.carry h) y is in
     let was' = grown_from (f.carry h') y' is' in
     rules.one_hoist h h' was.x was'.x was.was was'.was (ap (λ (z : Carry). z.carrier) was.is ∙ sym carrier ∙ sym (ap (λ (z : Carry). z.carrier) was'.is))
@@ -83,7 +87,8 @@ later_turn : (l : Layout) (t : Scene) (n : ℕ) (s : Scene) (c : ℕ) → StaysS
 later_turn l t n s c there =
     ⊎_elim (λ carried. inl carried) (λ (i, k, age, rests, spared). inr (i, k, age, rests, λ h y le. spared h y (omega arith))) there
 
-set_stays : (l : Layout) (o : Command) (f : Scene) (n : ℕ) (s : Scene) (c : ℕ) (q : Option Carry) → IsLayout l → KeepsRules l f
+set_stays : (l : Layout) (o : Command) (f : Scene) (n : ℕ) (s : Scene) (c : ℕ) (q : Option Carry) → IsLayout l
+    → KeepsRules l f
     → SetIn l (after_tick l o f) n s c → s.carry n ≡ q → StaysSet l (after_tick l o f) (n + 1) (set_down_by l n q s) c
 set_stays l o f n s c None layout rules stays has = later_turn l (after_tick l o f) n s c stays.there
 set_stays l o f n s c (Some x) layout rules stays has =
@@ -107,7 +112,14 @@ set_stays l o f n s c (Some x) layout rules stays has =
     ))
     (λ other. inl (h, y, with_other s.carry n None h other ∙ carries, same))
     (cases_eq n h))
-    (λ (i, k, age, rests, spared). inr (i, k, age, with_other s.hold x.to v i (λ here. spared n x (omega arith) is ends here) ∙ rests, λ h y le. spared h y (omega arith)))
+    (λ (i, k, age, rests, spared). inr (
+      i,
+      k,
+      age,
+      with_other s.hold x.to v i
+          (λ here. spared n x (omega arith) is ends here) ∙ rests,
+      λ h y le. spared h y (omega arith),
+    ))
     stays.there)
     (λ going. later_turn l t n s c stays.there)
 
@@ -124,7 +136,8 @@ set_in l o f c layout rules there =
       age + 1,
       ap (option_map aged_hold) rests,
       λ h y le is ends to.
-          apart y.carrier c (y.step + 1) k Lowering (Resting age) (f.hold i) (λ e. let g = e in cc) (ap f.hold (sym to) ∙ landing l o f h y layout rules is ends) rests,
+          apart y.carrier c (y.step + 1) k Lowering (Resting age) (f.hold i) (λ e. let g = e in cc)
+          (ap f.hold (sym to) ∙ landing l o f h y layout rules is ends) rests,
     ))
     there in
     partway.each_holds (λ n s. SetIn l t n s c) (set_down l) l.hoists t
@@ -147,13 +160,15 @@ stays_put l o f h x i c k age layout rules is lifted from rests =
     let was : f.hold i ≡ Some (hold_of x.carrier x.step Lifting) = ap f.hold (sym from) ∙ leaving l o f h x rules is lifted in
     ⊎_elim
     (λ (ended, young).
-    apart x.carrier ended.y.carrier x.step (ended.y.step + 1) Lifting Lowering (f.hold i) (λ e. let g = e in cc) was (ap f.hold (sym ended.tank) ∙ landing l o f ended.h ended.y layout rules ended.is ended.ends))
+    apart x.carrier ended.y.carrier x.step (ended.y.step + 1) Lifting Lowering (f.hold i) (λ e. let g = e in cc) was
+    (ap f.hold (sym ended.tank) ∙ landing l o f ended.h ended.y layout rules ended.is ended.ends))
     (λ old.
     let (a, rested, older) = rested l o f i c k age old in
     apart x.carrier c x.step k Lifting (Resting a) (f.hold i) (λ e. let g = e in cc) was rested)
     ((set_all l (after_tick l o f)).rests i c k age rests)
 
-free_stays : (l : Layout) (o : Command) (f : Scene) (n : ℕ) (g : Scene) (c : ℕ) (q : Option Carry) → IsLayout l → KeepsRules l f
+free_stays : (l : Layout) (o : Command) (f : Scene) (n : ℕ) (g : Scene) (c : ℕ) (q : Option Carry) → IsLayout l
+    → KeepsRules l f
     → FreeIn (each (set_down l) l.hoists (after_tick l o f)) g c → g.carry n ≡ q → IsIn (lift_out_by l q g) c
 free_stays l o f n g c None layout rules stays has = stays.there
 free_stays l o f n g c (Some x) layout rules stays has =
@@ -171,7 +186,8 @@ free_stays l o f n g c (Some x) layout rules stays has =
     stays.there)
     (λ other. stays.there)
 
-free_in : (l : Layout) (o : Command) (f : Scene) (c : ℕ) → IsLayout l → KeepsRules l f → IsIn f c → IsIn (after_free l o f) c
+free_in : (l : Layout) (o : Command) (f : Scene) (c : ℕ) → IsLayout l → KeepsRules l f → IsIn f c
+    → IsIn (after_free l o f) c
 free_in l o f c layout rules there =
     let s : Scene = each (set_down l) l.hoists (after_tick l o f) in
     let start : IsIn s c = ⊎_elim (λ carried. inl carried) (λ (i, k, age, rests, spared). inr (i, k, age, rests)) (set_in l o f c layout rules there).there in
@@ -184,7 +200,8 @@ off_passed true false p q e = (refl, refl)
 off_passed true true p q e = absurd (let g = e in cc)
 off_passed false b p q e = absurd (let g = e in cc)
 
-off_in : (l : Layout) (f g s : Scene) (b : Bool) (c : ℕ) → ((i k age : ℕ) → Rests s i c k age → Comes l f g i c k age) → IsIn s c
+off_in : (l : Layout) (f g s : Scene) (b : Bool) (c : ℕ) → ((i k age : ℕ) → Rests s i c k age → Comes l f g i c k age)
+    → IsIn s c
     → cond b (no_off_by l (s.hold l.unload_tank)) None ≡ None
     → TakenOff l f g c ⊎ IsIn (cond b (record s { hold = with s.hold l.unload_tank None }) s) c
 off_in l f g s false c came there none = inr there
@@ -194,9 +211,15 @@ off_in l f g s true c came there none =
     (λ (i, k, age, rests). ⊎_elim
     (λ here.
     let held : s.hold l.unload_tank ≡ Some (hold_of c k (Resting age)) = ap s.hold here ∙ rests in
-    let (a, b) = off_passed (k == l.last) (nat_lt age (l.least l.last)) (Early c k age (l.least l.last)) (NoCarrier l.unload_tank) (ap (no_off_by l) (sym held) ∙ none) in
+    let (a, b) = off_passed (k == l.last) (nat_lt age (l.least l.last)) (Early c k age (l.least l.last))
+    (NoCarrier l.unload_tank) (ap (no_off_by l) (sym held) ∙ none) in
     let last : k ≡ l.last = eqb-true k l.last a in
-    inl (record { i = i; age = age; comes = subst (λ (j : ℕ). Comes l f g i c j age) last (came i k age rests); old_enough = ltb-false age (l.least l.last) b }))
+    inl (record {
+      i = i;
+      age = age;
+      comes = subst (λ (j : ℕ). Comes l f g i c j age) last (came i k age rests);
+      old_enough = ltb-false age (l.least l.last) b;
+    }))
     (λ other. inr (inr (i, k, age, with_other s.hold l.unload_tank None i other ∙ rests)))
     (cases_eq l.unload_tank i))
     there
@@ -207,7 +230,8 @@ free_tank i None none = refl
 free_tank i (Some x) none = absurd (let g = none in cc)
 
 -- point 7
-put_in : (l : Layout) (s : Scene) (b : Bool) (c : ℕ) → IsIn s c → cond b (held l.load_tank (s.hold l.load_tank)) None ≡ None
+put_in : (l : Layout) (s : Scene) (b : Bool) (c : ℕ) → IsIn s c
+    → cond b (held l.load_tank (s.hold l.load_tank)) None ≡ None
     → IsIn (cond b (record s { hold = with s.hold l.load_tank (Some (hold_of s.next 0 (Resting 0))); next = s.next + 1 }) s) c
 put_in l s false c there none = there
 put_in l s true c there none =
@@ -219,7 +243,8 @@ put_in l s true c there none =
     there
 
 -- point 8
-low_if : (l : Layout) (s : Scene) (c : ℕ) (x : Carry) (b : Bool) → IsIn s c → cond b (held x.to (s.hold x.to)) None ≡ None
+low_if : (l : Layout) (s : Scene) (c : ℕ) (x : Carry) (b : Bool) → IsIn s c
+    → cond b (held x.to (s.hold x.to)) None ≡ None
     → IsIn (cond b (record s { hold = with s.hold x.to (Some (hold_of x.carrier (x.step + 1) Lowering)) }) s) c
 low_if l s c x false there none = there
 low_if l s c x true there none =
@@ -230,11 +255,13 @@ low_if l s c x true there none =
     (λ (i, k, age, rests). inr (i, k, age, with_other s.hold x.to v i (λ here. let a = ap s.hold here in let b = empty in let d = rests in cc) ∙ rests))
     there
 
-low_stays : (l : Layout) (s : Scene) (c : ℕ) (q : Option Carry) → IsIn s c → no_lowering_by l q s ≡ None → IsIn (lower_in_by l q s) c
+low_stays : (l : Layout) (s : Scene) (c : ℕ) (q : Option Carry) → IsIn s c → no_lowering_by l q s ≡ None
+    → IsIn (lower_in_by l q s) c
 low_stays l s c None there none = there
 low_stays l s c (Some x) there none = low_if l s c x (lowers_now l x) there none
 
-low_in : (l : Layout) (n : ℕ) (s : Scene) (c : ℕ) → IsIn s c → first n (λ h. no_lowering l h (each (lower_in l) h s)) ≡ None
+low_in : (l : Layout) (n : ℕ) (s : Scene) (c : ℕ) → IsIn s c
+    → first n (λ h. no_lowering l h (each (lower_in l) h s)) ≡ None
     → IsIn (each (lower_in l) n s) c
 low_in l zero s c there none = there
 low_in l (suc n) s c there none =
@@ -257,14 +284,21 @@ begun_in l n m g c (Ok x) idle stays new =
       there = ⊎_elim
           (λ (h, y, is, same). inl (h, y, with_other g.carry n (Some x) h (λ here. idle y (stays.carry n y (omega arith) (ap g.carry here ∙ is))) ∙ is, same))
           (λ (i, k, age, rests). ⊎_elim
-          (λ here. inl (n, x, with_same g.carry n (Some x) n refl, ap (λ (w : Hold). w.carrier) (some_same (hold_of x.carrier x.step (Resting started.age)) (hold_of c k (Resting age)) (sym started.rests ∙ ap g.hold here ∙ rests))))
+          (λ here. inl (
+            n,
+            x,
+            with_same g.carry n (Some x) n refl,
+            ap (λ (w : Hold). w.carrier) (some_same (hold_of x.carrier x.step (Resting started.age))
+                (hold_of c k (Resting age)) (sym started.rests ∙ ap g.hold here ∙ rests)),
+          ))
           (λ other. inr (i, k, age, with_other g.hold x.from v i other ∙ rests))
           (cases_eq x.from i))
           stays.there;
     }
 
 begin_stays : (l : Layout) (o : Command) (f : Scene) (n : ℕ) (m g : Scene) (c : ℕ) (q : Option ℕ)
-    → ((to : ℕ) → q ≡ Some to → (y : Carry) → m.carry n ≡ Some y → ⊥) → BeginIn n m g c → BeginIn (n + 1) m (begin_by l n q g) c
+    → ((to : ℕ) → q ≡ Some to → (y : Carry) → m.carry n ≡ Some y → ⊥) → BeginIn n m g c
+    → BeginIn (n + 1) m (begin_by l n q g) c
 begin_stays l o f n m g c None idle stays = record { carry = λ h y le e. stays.carry h y (omega arith) e; there = stays.there }
 begin_stays l o f n m g c (Some to) idle stays =
     begun_in l n m g c (begun l n to g) (idle to refl) stays (λ x e. started_tank l n (g.at n) to (tank_among l (g.at n) l.tanks) g x e)
@@ -273,14 +307,18 @@ begin_stays l o f n m g c (Some to) idle stays =
 abbrev NoneLeft : Layout → ℕ → Scene → Type 0
 NoneLeft l n g = (h : ℕ) (y : Carry) → h < n → g.carry h ≡ Some y → y.elapsed ≡ length_of l y → ⊥
 
-none_left : (l : Layout) (n : ℕ) (g : Scene) (q : Option Carry) → NoneLeft l n g → g.carry n ≡ q → NoneLeft l (n + 1) (set_down_by l n q g)
+none_left : (l : Layout) (n : ℕ) (g : Scene) (q : Option Carry) → NoneLeft l n g → g.carry n ≡ q
+    → NoneLeft l (n + 1) (set_down_by l n q g)
 none_left l n g None none has = λ h y lt e ends.
     ⊎_elim
     (λ here. let a = ap g.carry here in let b = has in let d = e in absurd (let two = sym b ∙ a ∙ d in cc))
     (λ other. none h y (omega arith) e ends)
     (cases_eq n h)
 none_left l n g (Some x) none has =
-    cond_both (x.elapsed == length_of l x) (record g { carry = with g.carry n None; hold = with g.hold x.to (Some (hold_of x.carrier (x.step + 1) (Resting 0))) }) g (λ s. NoneLeft l (n + 1) s)
+    cond_both (x.elapsed == length_of l x) (record g {
+      carry = with g.carry n None;
+      hold = with g.hold x.to (Some (hold_of x.carrier (x.step + 1) (Resting 0)));
+    }) g (λ s. NoneLeft l (n + 1) s)
     (λ b h y lt e ends. ⊎_elim
     (λ here. absurd (let a = with_same g.carry n None h here in let d = e in cc))
     (λ other. none h y (omega arith) (sym (with_other g.carry n None h other) ∙ e) ends)
@@ -293,7 +331,8 @@ none_left l n g (Some x) none has =
     (cases_eq n h))
 
 -- a hoist that is ordered to begin carries nothing by then
-is_idle : (l : Layout) (o : Command) (f : Scene) (n to : ℕ) (y : Carry) → IsLayout l → KeepsRules l f → busy l o f n ≡ None
+is_idle : (l : Layout) (o : Command) (f : Scene) (n to : ℕ) (y : Carry) → IsLayout l → KeepsRules l f
+    → busy l o f n ≡ None
     → n < l.hoists → o.begin n ≡ Some to → (after_lowering l o f).carry n ≡ Some y → ⊥
 is_idle l o f n to y layout rules free there order has =
     let late = carried_before l o f n y has in
@@ -302,15 +341,18 @@ is_idle l o f n to y layout rules free there order has =
     let e : was.x.elapsed + 1 ≡ y.elapsed = ap (λ (z : Carry). z.elapsed) was.is in
     let d : length_of l was.x ≡ length_of l y = ap (length_of l) was.is in
     let s : Scene = each (set_down l) l.hoists (after_tick l o f) in
-    let none : NoneLeft l l.hoists s = partway.each_holds (λ h g. NoneLeft l h g) (set_down l) l.hoists (after_tick l o f) (λ h y lt. absurd (omega arith)) (λ h g lt none. none_left l h g (g.carry h) none refl) in
+    let none : NoneLeft l l.hoists s = partway.each_holds (λ h g. NoneLeft l h g) (set_down l) l.hoists
+    (after_tick l o f) (λ h y lt. absurd (omega arith)) (λ h g lt none. none_left l h g (g.carry h) none refl) in
     none n y there ((freed l o f).carry n y late) (omega arith)
 
-begin_in : (l : Layout) (o : Command) (f : Scene) (c : ℕ) → IsLayout l → KeepsRules l f → first l.hoists (busy l o f) ≡ None
+begin_in : (l : Layout) (o : Command) (f : Scene) (c : ℕ) → IsLayout l → KeepsRules l f
+    → first l.hoists (busy l o f) ≡ None
     → IsIn (after_lowering l o f) c → IsIn (after_begin l o f) c
 begin_in l o f c layout rules free there =
     let m : Scene = after_lowering l o f in
     (partway.each_holds (λ n g. BeginIn n m g c) (begin_move l o) l.hoists m (record { carry = λ h y le e. e; there = there })
-    (λ n g lt stays. begin_stays l o f n m g c (o.begin n) (λ to order y has. is_idle l o f n to y layout rules (first_pass l.hoists (busy l o f) n free lt) lt order has) stays)).there
+    (λ n g lt stays. begin_stays l o f n m g c (o.begin n) (λ to order y has. is_idle l o f n to y layout rules
+    (first_pass l.hoists (busy l o f) n free lt) lt order has) stays)).there
 
 -- who is in the line before point 8 is in it at the end
 ends_in : (l : Layout) (o : Command) (f g : Scene) (c : ℕ) → IsLayout l → KeepsRules l f → Tests l o f g
@@ -328,7 +370,11 @@ stays_in l o f g c layout rules tests there =
     (off_in l f end s o.off c (λ i k age rests. came_free l o f end i c k age rests) (free_in l o f c layout rules there) tests.off)
 
 -- who is put on is in the line at the end of the step
-put_rests : (l : Layout) (s : Scene) (b : Bool) → (cond b (record s { hold = with s.hold l.load_tank (Some (hold_of s.next 0 (Resting 0))); next = s.next + 1 }) s).next ≡ s.next + 1
+put_rests : (l : Layout) (s : Scene) (b : Bool) → (cond b (record s {
+  hold = with s.hold l.load_tank
+      (Some (hold_of s.next 0 (Resting 0)));
+  next = s.next + 1;
+}) s).next ≡ s.next + 1
     → IsIn (cond b (record s { hold = with s.hold l.load_tank (Some (hold_of s.next 0 (Resting 0))); next = s.next + 1 }) s) s.next
 put_rests l s true next = inr (l.load_tank, 0, 0, with_same s.hold l.load_tank (Some (hold_of s.next 0 (Resting 0))) l.load_tank refl)
 put_rests l s false next = absurd (omega arith)

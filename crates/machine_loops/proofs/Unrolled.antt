@@ -52,7 +52,8 @@ next_frame l period frames z i some lt =
     ∙ ap (raised (z * l.degree)) (sym (cond-false (i + 1 == period) (raised l.degree (frames 0)) (frames (i + 1)) (ne_eqb (i + 1) period other))))
     (cases_eq (i + 1) period)
 
-pub unrolled : (l : LineData) (period : ℕ) (frames : ℕ → Scene) → IsLine l → IsLoop l period frames → Unrolled l period (frame_at l period frames)
+pub unrolled : (l : LineData) (period : ℕ) (frames : ℕ → Scene) → IsLine l → IsLoop l period frames
+    → Unrolled l period (frame_at l period frames)
 unrolled l period frames line loop =
     let layout = layout_is l line in
     record {
@@ -60,7 +61,8 @@ unrolled l period frames line loop =
       layout = layout;
       some = loop.some;
       degree = line.limits.degree.0;
-      sound = λ t. raised_sound (layout_of l) (t / period * l.degree) (frames (t % period)) (sound (layout_of l) (frames (t % period)) (loop.keeps (t % period) (mod_below t period loop.some)));
+      sound = λ t. raised_sound (layout_of l) (t / period * l.degree) (frames (t % period))
+          (sound (layout_of l) (frames (t % period)) (loop.keeps (t % period) (mod_below t period loop.some)));
       passes = λ t.
           let i = t % period in
           let z = t / period in
@@ -70,7 +72,8 @@ unrolled l period frames line loop =
           let step = passes (layout_of l) order (frames i) (frame_after l period frames i) layout (loop.keeps i lt) leads in
           let next : raised (z * l.degree) (frame_after l period frames i) ≡ frame_at l period frames (suc t) =
           sym (next_frame l period frames z i loop.some lt) ∙ ap (λ (n : ℕ). frame_at l period frames (suc n)) (sym here) in
-          subst (λ (s : Scene). Passes (layout_of l) (frame_at l period frames t) s) next (raised_passes (layout_of l) (z * l.degree) (frames i) (frame_after l period frames i) step);
+          subst (λ (s : Scene). Passes (layout_of l) (frame_at l period frames t) s) next
+          (raised_passes (layout_of l) (z * l.degree) (frames i) (frame_after l period frames i) step);
       again = λ z t.
           let i = t % period in
           let q = t / period in

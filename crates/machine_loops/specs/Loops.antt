@@ -103,7 +103,8 @@ pub record IsLoopBy (l : LineData) (period : ℕ) (frames : ℕ → Scene) (orde
   pub some : 1 ≤ period
   pub goes_on : (i : ℕ) → i < period → GoesOn l period frames orders i
 
--- they aren't, and this is the first frame that breaks the frame rules or whose order doesn't lead to the frame after it
+-- they aren't, and this is the first frame that breaks the frame rules or whose order doesn't lead to the frame after
+-- it
 pub record BreaksAt (l : LineData) (period : ℕ) (frames : ℕ → Scene) (orders : ℕ → Command) (index : ℕ) : Type 0 where
   pub there : index < period
   pub breaks : GoesOn l period frames orders index → ⊥

@@ -6,16 +6,77 @@ use Rattle.std.proofs.lemmas.List.Elements.{All-from_recursion, All-append}
 use Rattle.markup.specs.Escape.{escape_of, escaped, IsInner}
 
 for_38 : All IsInner (escape_of 38)
-for_38 = All-from_recursion IsInner (escape_of 38) (((λ e. omega (arith, e)), (λ e. omega (arith, e)), (λ e. omega (arith, e))), (((λ e. omega (arith, e)), (λ e. omega (arith, e)), (λ e. omega (arith, e))), (((λ e. omega (arith, e)), (λ e. omega (arith, e)), (λ e. omega (arith, e))), (((λ e. omega (arith, e)), (λ e. omega (arith, e)), (λ e. omega (arith, e))), (((λ e. omega (arith, e)), (λ e. omega (arith, e)), (λ e. omega (arith, e))), tt)))))
+for_38 = All-from_recursion IsInner (escape_of 38) (
+  (
+    (λ e. omega (arith, e)),
+    (λ e. omega (arith, e)),
+    (λ e. omega (arith, e)),
+  ),
+  (
+    ((λ e. omega (arith, e)), (λ e. omega (arith, e)), (λ e. omega (arith, e))),
+    (
+      ((λ e. omega (arith, e)), (λ e. omega (arith, e)), (λ e. omega (arith, e))),
+      (
+        ((λ e. omega (arith, e)), (λ e. omega (arith, e)), (λ e. omega (arith, e))),
+        (((λ e. omega (arith, e)), (λ e. omega (arith, e)), (λ e. omega (arith, e))), tt),
+      ),
+    ),
+  ),
+)
 
 for_60 : All IsInner (escape_of 60)
-for_60 = All-from_recursion IsInner (escape_of 60) (((λ e. omega (arith, e)), (λ e. omega (arith, e)), (λ e. omega (arith, e))), (((λ e. omega (arith, e)), (λ e. omega (arith, e)), (λ e. omega (arith, e))), (((λ e. omega (arith, e)), (λ e. omega (arith, e)), (λ e. omega (arith, e))), (((λ e. omega (arith, e)), (λ e. omega (arith, e)), (λ e. omega (arith, e))), tt))))
+for_60 = All-from_recursion IsInner (escape_of 60) (
+  (
+    (λ e. omega (arith, e)),
+    (λ e. omega (arith, e)),
+    (λ e. omega (arith, e)),
+  ),
+  (
+    ((λ e. omega (arith, e)), (λ e. omega (arith, e)), (λ e. omega (arith, e))),
+    (
+      ((λ e. omega (arith, e)), (λ e. omega (arith, e)), (λ e. omega (arith, e))),
+      (((λ e. omega (arith, e)), (λ e. omega (arith, e)), (λ e. omega (arith, e))), tt),
+    ),
+  ),
+)
 
 for_62 : All IsInner (escape_of 62)
-for_62 = All-from_recursion IsInner (escape_of 62) (((λ e. omega (arith, e)), (λ e. omega (arith, e)), (λ e. omega (arith, e))), (((λ e. omega (arith, e)), (λ e. omega (arith, e)), (λ e. omega (arith, e))), (((λ e. omega (arith, e)), (λ e. omega (arith, e)), (λ e. omega (arith, e))), (((λ e. omega (arith, e)), (λ e. omega (arith, e)), (λ e. omega (arith, e))), tt))))
+for_62 = All-from_recursion IsInner (escape_of 62) (
+  (
+    (λ e. omega (arith, e)),
+    (λ e. omega (arith, e)),
+    (λ e. omega (arith, e)),
+  ),
+  (
+    ((λ e. omega (arith, e)), (λ e. omega (arith, e)), (λ e. omega (arith, e))),
+    (
+      ((λ e. omega (arith, e)), (λ e. omega (arith, e)), (λ e. omega (arith, e))),
+      (((λ e. omega (arith, e)), (λ e. omega (arith, e)), (λ e. omega (arith, e))), tt),
+    ),
+  ),
+)
 
 for_34 : All IsInner (escape_of 34)
-for_34 = All-from_recursion IsInner (escape_of 34) (((λ e. omega (arith, e)), (λ e. omega (arith, e)), (λ e. omega (arith, e))), (((λ e. omega (arith, e)), (λ e. omega (arith, e)), (λ e. omega (arith, e))), (((λ e. omega (arith, e)), (λ e. omega (arith, e)), (λ e. omega (arith, e))), (((λ e. omega (arith, e)), (λ e. omega (arith, e)), (λ e. omega (arith, e))), (((λ e. omega (arith, e)), (λ e. omega (arith, e)), (λ e. omega (arith, e))), (((λ e. omega (arith, e)), (λ e. omega (arith, e)), (λ e. omega (arith, e))), tt))))))
+for_34 = All-from_recursion IsInner (escape_of 34) (
+  (
+    (λ e. omega (arith, e)),
+    (λ e. omega (arith, e)),
+    (λ e. omega (arith, e)),
+  ),
+  (
+    ((λ e. omega (arith, e)), (λ e. omega (arith, e)), (λ e. omega (arith, e))),
+    (
+      ((λ e. omega (arith, e)), (λ e. omega (arith, e)), (λ e. omega (arith, e))),
+      (
+        ((λ e. omega (arith, e)), (λ e. omega (arith, e)), (λ e. omega (arith, e))),
+        (
+          ((λ e. omega (arith, e)), (λ e. omega (arith, e)), (λ e. omega (arith, e))),
+          (((λ e. omega (arith, e)), (λ e. omega (arith, e)), (λ e. omega (arith, e))), tt),
+        ),
+      ),
+    ),
+  ),
+)
 
 other_number : (i j : ℕ) → i ≢ j → (i == j) ≡ false
 other_number i j e = grind (arith, nat_tests)

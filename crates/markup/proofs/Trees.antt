@@ -35,7 +35,8 @@ pub holds_nothing : IsInside []
 holds_nothing = (nothing, refl)
 
 -- one attribute more
-pub attribute_more : (text new : List ℕ) (key : Key) (value : List ℕ) → AreAttributes text → new ≡ text ++ attribute_text key value
+pub attribute_more : (text new : List ℕ) (key : Key) (value : List ℕ) → AreAttributes text
+    → new ≡ text ++ attribute_text key value
     → AreAttributes new
 attribute_more text new key value (list, is) after = (
   list ++ (key, value) ∷ [],
@@ -67,7 +68,8 @@ element_more text new f (forest, is) (list, attributes) (inside, holds) after = 
 )
 
 -- a document whose element is of a tree
-pub tree_of : (text : List ℕ) (f : Form) → AreAttributes f.attributes → IsInside f.inside → text ≡ document_text f → IsDocument text
+pub tree_of : (text : List ℕ) (f : Form) → AreAttributes f.attributes → IsInside f.inside → text ≡ document_text f
+    → IsDocument text
 tree_of text f (list, attributes) (inside, holds) is = (
   f.tag,
   list,
@@ -88,7 +90,8 @@ one_more old text new n part before after =
     ∙ ap (flat_map part) (sym (range_more n)))
 
 -- one element more behind the first ones
-pub holds_more : (f old new e : Form) (g : ℕ → Form) (n : ℕ) → old ≡ holding_all f (map g (range_with_len 0 n)) → e ≡ g n
+pub holds_more : (f old new e : Form) (g : ℕ → Form) (n : ℕ) → old ≡ holding_all f (map g (range_with_len 0 n))
+    → e ≡ g n
     → new ≡ holding old e → new ≡ holding_all f (map g (range_with_len 0 (n + 1)))
 unfolding holding holding_all
 holds_more f old new e g n before is after =

@@ -33,7 +33,8 @@ GoesOn s cap fuel start low period last =
     ⊎ ((walk : WalkData) × (closed_walk_of s start ≡ Some walk) × (walk.q <ℤ pos 0) × (start < least_kept walk) × (climb_from s cap fuel (least_kept walk)
     (Some walk) ≡ Floor period last))
 
-goes_on : (s : SystemData) (cap fuel start : ℕ) (low : Option WalkData) (period : ℕ) (last : Option WalkData) → IsSystem s
+goes_on : (s : SystemData) (cap fuel start : ℕ) (low : Option WalkData) (period : ℕ) (last : Option WalkData)
+    → IsSystem s
     → climb_from s cap (suc fuel) start low ≡ Floor period last → GoesOn s cap fuel start low period last
 goes_on s cap fuel start low period last valid is =
     ⊎_elim
@@ -62,7 +63,8 @@ goes_on s cap fuel start low period last valid is =
     (cases_lt start cap)
 
 -- it ends at no period before the one that it begins with
-ends_later : (s : SystemData) (cap fuel start : ℕ) (low : Option WalkData) (period : ℕ) (last : Option WalkData) → IsSystem s
+ends_later : (s : SystemData) (cap fuel start : ℕ) (low : Option WalkData) (period : ℕ) (last : Option WalkData)
+    → IsSystem s
     → climb_from s cap fuel start low ≡ Floor period last → start ≤ period
 ends_later s cap zero start low period last valid is = absurd (never low None last period is)
 ends_later s cap (suc fuel) start low period last valid is =
@@ -70,8 +72,10 @@ ends_later s cap (suc fuel) start low period last valid is =
     (λ (walk, some, down, later, rest). omega (arith, later, ends_later s cap fuel (least_kept walk) (Some walk) period last valid rest))
     (goes_on s cap fuel start low period last valid is)
 
-same_later : (s : SystemData) (cap later fuel left start : ℕ) (low : Option WalkData) (period : ℕ) (last : Option WalkData) → IsSystem s
-    → climb_from s cap fuel start low ≡ Floor period last → period < later → later ≤ start + left → climb_from s later left start low ≡ Floor period last
+same_later : (s : SystemData) (cap later fuel left start : ℕ) (low : Option WalkData) (period : ℕ) (last : Option WalkData)
+    → IsSystem s
+    → climb_from s cap fuel start low ≡ Floor period last → period < later → later ≤ start + left
+    → climb_from s later left start low ≡ Floor period last
 same_later s cap later zero left start low period last valid is below enough = absurd (never low None last period is)
 same_later s cap later (suc fuel) left start low period last valid is below enough =
     let lt : start < later = omega (arith, below, ends_later s cap (suc fuel) start low period last valid is) in
@@ -83,6 +87,7 @@ same_later s cap later (suc fuel) left start low period last valid is below enou
     sym raised.2 ∙ same_later s cap later fuel raised.0 (least_kept walk) (Some walk) period last valid rest below raised.1)
     (goes_on s cap fuel start low period last valid is)
 
-pub climbed_later : (s : SystemData) (cap period : ℕ) (last : Option WalkData) → IsSystem s → climbed s cap ≡ Floor period last → (later : ℕ) → period < later
+pub climbed_later : (s : SystemData) (cap period : ℕ) (last : Option WalkData) → IsSystem s
+    → climbed s cap ≡ Floor period last → (later : ℕ) → period < later
     → climbed s later ≡ Floor period last
 climbed_later s cap period last valid is later below = same_later s cap later cap later 1 None period last valid is below (omega arith)

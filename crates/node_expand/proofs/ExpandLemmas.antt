@@ -31,7 +31,8 @@ use Rattle.node_expand.proofs.FloorLemmas.{not_one}
 -- ---- names
 
 -- a walk's constraints have names
-pub names_there : (l : LineData) (path : List Decision) (names : List Constraint) (walk : WalkData) → names ≡ constraint_list l path
+pub names_there : (l : LineData) (path : List Decision) (names : List Constraint) (walk : WalkData)
+    → names ≡ constraint_list l path
     → closed.IsClosedWalk (system_below l path) walk
     → (k : ℕ) → k < length walk.arcs → get_or walk.arcs k 0 < length names
 names_there l path names walk is h k lt =
@@ -43,13 +44,15 @@ names_there l path names walk is h k lt =
           (constraint_list l path) (arc_of l path),
     )
 
-pub some_names_there : (l : LineData) (path : List Decision) (names : List Constraint) (walk : Option WalkData) → names ≡ constraint_list l path
+pub some_names_there : (l : LineData) (path : List Decision) (names : List Constraint) (walk : Option WalkData)
+    → names ≡ constraint_list l path
     → IfSome walk (closed.IsClosedWalk (system_below l path))
     → IfSome walk (λ w. (k : ℕ) → k < length w.arcs → get_or w.arcs k 0 < length names)
 some_names_there l path names None is h = tt
 some_names_there l path names (Some walk) is h = names_there l path names walk is h
 
-pub names_are : (l : LineData) (path : List Decision) (names : List Constraint) (walk : WalkData) (proof : List Constraint) → names ≡ constraint_list l path
+pub names_are : (l : LineData) (path : List Decision) (names : List Constraint) (walk : WalkData) (proof : List Constraint)
+    → names ≡ constraint_list l path
     → proof ≡ map (λ k. get_or names k (Entry 0)) walk.arcs → proof ≡ named l path walk
 names_are l path names walk proof is made = made ∙ ap (λ (ts : List Constraint). map (λ k. get_or ts k (Entry 0)) walk.arcs) is
 
@@ -66,7 +69,8 @@ pub record IsShutAt (l : LineData) (path : List Decision) (cap : ℕ) (low high 
   pub high_closed : IfSome high (closed.IsClosedWalk (system_below l path))
   pub gives : (t : ℕ) → 1 ≤ t → t < cap → Gives low t ⊎ Gives high t
 
-pub shut_at : (l : LineData) (path : List Decision) (cap : ℕ) (s : SystemData) (x : Climbed) (low high : Option WalkData) → s ≡ system_below l path
+pub shut_at : (l : LineData) (path : List Decision) (cap : ℕ) (s : SystemData) (x : Climbed) (low high : Option WalkData)
+    → s ≡ system_below l path
     → x ≡ Shut low high → AreRefuted cap x → AllWalks (closed.IsClosedWalk s) x
     → IsShutAt l path cap low high
 shut_at l path cap s x low high e is refuted walks =
@@ -84,16 +88,19 @@ shut_shows l path cap low high low_names high_names h is_low is_high =
     let Q : Option (List Constraint) → Type 0 = λ o. RefuteBelow l path (option_to_list low_names ++ option_to_list o) cap in
     subst Q (sym is_high) (subst P (sym is_low) (refute_two l path low high cap h.low_closed h.high_closed h.gives))
 
-short_names : (l : LineData) (path : List Decision) (walk : Option WalkData) → IfSome walk (closed.IsClosedWalk (system_below l path))
+short_names : (l : LineData) (path : List Decision) (walk : Option WalkData)
+    → IfSome walk (closed.IsClosedWalk (system_below l path))
     → IfSome (names_of l path walk) IsShortWalk
 short_names l path None h = tt
 short_names l path (Some walk) h = short_named l path walk h
 
-given : (l : LineData) (path : List Decision) (walk : Option WalkData) (t : ℕ) → Gives walk t → IsSome (names_of l path walk)
+given : (l : LineData) (path : List Decision) (walk : Option WalkData) (t : ℕ) → Gives walk t
+    → IsSome (names_of l path walk)
 given l path None t h = absurd h
 given l path (Some walk) t h = refl
 
-pub shut_few : (l : LineData) (path : List Decision) (cap : ℕ) (low high : Option WalkData) (low_names high_names : Option (List Constraint)) → 2 ≤ cap
+pub shut_few : (l : LineData) (path : List Decision) (cap : ℕ) (low high : Option WalkData) (low_names high_names : Option (List Constraint))
+    → 2 ≤ cap
     → IsShutAt l path cap low high → low_names ≡ names_of l path low → high_names ≡ names_of l path high
     → (IsSome low_names ⊎ IsSome high_names) × IfSome low_names IsShortWalk × IfSome high_names IsShortWalk
 shut_few l path cap low high low_names high_names some h is_low is_high =
@@ -114,7 +121,8 @@ pub record IsFloorAt (l : LineData) (path : List Decision) (cap period : ℕ) (l
   pub walk_closed : IfSome low (closed.IsClosedWalk (system_below l path))
   pub gives : (t : ℕ) → 1 ≤ t → t < period → Gives low t
 
-pub floor_at : (l : LineData) (path : List Decision) (cap : ℕ) (s : SystemData) (x : Climbed) (period : ℕ) (low : Option WalkData) → s ≡ system_below l path
+pub floor_at : (l : LineData) (path : List Decision) (cap : ℕ) (s : SystemData) (x : Climbed) (period : ℕ) (low : Option WalkData)
+    → s ≡ system_below l path
     → x ≡ Floor period low
     → IsLeastFeasible s cap x → AreRefuted cap x → AllWalks (closed.IsClosedWalk s) x → IsFloorAt l path cap period low
 floor_at l path cap s x period low e is least refuted walks =
@@ -127,7 +135,8 @@ floor_at l path cap s x period low e is least refuted walks =
     record { some = f.0; below = f.1; feasible = f.2; walk_closed = subst Q is (subst P e walks); gives = subst R is refuted }
 
 -- the last walk is there
-pub walk_is_there : (l : LineData) (path : List Decision) (cap period : ℕ) (low : Option WalkData) → IsLine l → IsFloorAt l path cap period low → low ≡ None → ⊥
+pub walk_is_there : (l : LineData) (path : List Decision) (cap period : ℕ) (low : Option WalkData) → IsLine l
+    → IsFloorAt l path cap period low → low ≡ None → ⊥
 walk_is_there l path cap period low line h none =
     let P : Option WalkData → Type 0 = λ o. (t : ℕ) → 1 ≤ t → t < period → Gives o t in
     let gives = subst P none h.gives in
@@ -135,16 +144,19 @@ walk_is_there l path cap period low line h none =
     let Q : ℕ → Type 0 = λ t. IsFeasible (system_below l path) t in
     not_one l path line (subst Q one h.feasible)
 
-pub floor_closed : (l : LineData) (path : List Decision) (cap period : ℕ) (low : Option WalkData) (walk : WalkData) → IsFloorAt l path cap period low
+pub floor_closed : (l : LineData) (path : List Decision) (cap period : ℕ) (low : Option WalkData) (walk : WalkData)
+    → IsFloorAt l path cap period low
     → low ≡ Some walk → closed.IsClosedWalk (system_below l path) walk
 floor_closed l path cap period low walk h is =
     let P : Option WalkData → Type 0 = λ o. IfSome o (closed.IsClosedWalk (system_below l path)) in subst P is h.walk_closed
 
 -- ---- solved
 
-pub plannable : (l : LineData) (path : List Decision) (period : ℕ) (ticks : List ℤ) (s : Solved) → IsLine l → FitsPath l path → 1 ≤ period → period ≤ 20000
+pub plannable : (l : LineData) (path : List Decision) (period : ℕ) (ticks : List ℤ) (s : Solved) → IsLine l
+    → FitsPath l path → 1 ≤ period → period ≤ 20000
     → IsLeastSolution (system_below l path) period ticks
-    → IsFirstQuestion l path (tick_at ticks) period None → s.period ≡ period → s.ticks ≡ ticks → Settles l path s → IsRoute l s.tanks
+    → IsFirstQuestion l path (tick_at ticks) period None → s.period ≡ period → s.ticks ≡ ticks → Settles l path s
+    → IsRoute l s.tanks
     → length s.hoists ≡ move_count l → IsPlannable l s
 plannable l path period ticks s line fits some small least none is_period is_ticks settles route count =
     let P : ℕ → Type 0 = λ t. IsLeastSolution (system_below l path) t s.ticks × IsFirstQuestion l path (tick_at s.ticks) t None in

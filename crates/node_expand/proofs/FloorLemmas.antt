@@ -37,7 +37,8 @@ over_row : (n : ℕ) (row : ℕ → Motion) (ys : List ℕ) → ((j : ℕ) → n
 over_row n row [] h = tt
 over_row n row (y ∷ ys) h = (h y, over_row n row ys h)
 
-over_rows : (n : ℕ) (mb : ℕ → ℕ → Motion) (xs ys : List ℕ) → ((i j : ℕ) → n ≤ there_and_back (mb i j)) → Over n (flat_map (λ i. map (λ j. mb i j) ys) xs)
+over_rows : (n : ℕ) (mb : ℕ → ℕ → Motion) (xs ys : List ℕ) → ((i j : ℕ) → n ≤ there_and_back (mb i j))
+    → Over n (flat_map (λ i. map (λ j. mb i j) ys) xs)
 over_rows n mb [] ys h = tt
 over_rows n mb (x ∷ xs) ys h =
     over-append n (map (λ j. mb x j) ys) (flat_map (λ i. map (λ j. mb i j) ys) xs) (over_row n (λ j. mb x j) ys (h x)) (over_rows n mb xs ys h)
@@ -54,10 +55,12 @@ some_by : (tanks : List ℕ) (o : Option ℕ) → 1 ≤ length tanks → 1 ≤ l
 some_by tanks None some = some
 some_by tanks (Some n) some = omega arith
 
-pub some_tanks : (l : LineData) (path : List Decision) (c k : ℕ) → IsLine l → k < length l.stages → 1 ≤ length (tanks_below l path c k)
+pub some_tanks : (l : LineData) (path : List Decision) (c k : ℕ) → IsLine l → k < length l.stages
+    → 1 ≤ length (tanks_below l path c k)
 some_tanks l path c k line lt = some_by (stage l k).tanks (choice_of path c k) (line.stages.count k lt).0
 
-some_rows : (mb : ℕ → ℕ → Motion) (xs ys : List ℕ) → 1 ≤ length xs → 1 ≤ length ys → 1 ≤ length (flat_map (λ i. map (λ j. mb i j) ys) xs)
+some_rows : (mb : ℕ → ℕ → Motion) (xs ys : List ℕ) → 1 ≤ length xs → 1 ≤ length ys
+    → 1 ≤ length (flat_map (λ i. map (λ j. mb i j) ys) xs)
 some_rows mb [] ys some some' = absurd (omega (arith, some))
 some_rows mb (x ∷ xs) [] some some' = absurd (omega (arith, some'))
 some_rows mb (x ∷ xs) (y ∷ ys) some some' = omega arith
@@ -78,7 +81,8 @@ not_one l path line (t, solves) =
 
 -- ---- node 0 reaches every node
 
-on : (l : LineData) (path : List Decision) (t : Constraint) (i j : ℕ) → IsLine l → IsConstraint l path t → (arc_of l path t).from ≡ i → (arc_of l path t).to ≡ j
+on : (l : LineData) (path : List Decision) (t : Constraint) (i j : ℕ) → IsLine l → IsConstraint l path t
+    → (arc_of l path t).from ≡ i → (arc_of l path t).to ≡ j
     → IsReached (system_below l path) i → IsReached (system_below l path) j
 on l path t i j line is from to r =
     let at = place_in (constraint_list l path) t (Entry 0) (in_list l path t line.limits.stages.0 is) in
@@ -88,7 +92,8 @@ on l path t i j line is from to r =
     let back_there : Leads (system_below l path) 0 r.0 (arc (system_below l path) at.0).from = subst P (sym (ap (λ (a : Arc). a.from) e ∙ from)) r.1 in
     (at.0 ∷ r.0, (lt, ap (λ (a : Arc). a.to) e ∙ to, back_there))
 
-carrier_reached : (l : LineData) (path : List Decision) (c : ℕ) → IsLine l → c < l.degree → IsReached (system_below l path) (move_number l c 0)
+carrier_reached : (l : LineData) (path : List Decision) (c : ℕ) → IsLine l → c < l.degree
+    → IsReached (system_below l path) (move_number l c 0)
 carrier_reached l path zero line lt = let e : 0 ≡ move_number l 0 0 = omega arith in ([], e)
 carrier_reached l path (suc c) line lt =
     let n : suc c ≡ c + 1 = omega arith in
@@ -100,7 +105,8 @@ carrier_reached l path (suc c) line lt =
     on l path (Entry c) (move_number l c 0) (move_number l (suc c) 0) line (omega (arith, lt)) (ap (λ (a : Arc). a.from) is) to
     (carrier_reached l path c line (omega (arith, lt)))
 
-move_reached : (l : LineData) (path : List Decision) (c k : ℕ) → IsLine l → c < l.degree → k ≤ last_step l → IsReached (system_below l path) (move_number l c k)
+move_reached : (l : LineData) (path : List Decision) (c k : ℕ) → IsLine l → c < l.degree → k ≤ last_step l
+    → IsReached (system_below l path) (move_number l c k)
 move_reached l path c zero line lt few = carrier_reached l path c line lt
 move_reached l path c (suc k) line lt few =
     let before : suc k - 1 ≡ k = omega arith in
@@ -119,7 +125,8 @@ node_is l i some = sym (number_of_move l i)
 pub node_move : (l : LineData) (i : ℕ) → IsLine l → i < move_count l → IsMove l (i / last_stage l) (i % last_stage l)
 node_move l i line lt = move_there l i line lt
 
-pub all_reached : (l : LineData) (path : List Decision) (i : ℕ) → IsLine l → i < move_count l → IsReached (system_below l path) i
+pub all_reached : (l : LineData) (path : List Decision) (i : ℕ) → IsLine l → i < move_count l
+    → IsReached (system_below l path) i
 all_reached l path i line lt =
     let m = move_there l i line lt in
     let P : ℕ → Type 0 = λ n. IsReached (system_below l path) n in
@@ -127,7 +134,8 @@ all_reached l path i line lt =
 
 -- ---- ticks
 
-tick_near : (l : LineData) (path : List Decision) (s : ℕ → ℤ) (period i : ℕ) → IsLine l → Solves (system_below l path) period s → period ≤ 20001 → s 0 ≡ pos 0
+tick_near : (l : LineData) (path : List Decision) (s : ℕ → ℤ) (period i : ℕ) → IsLine l
+    → Solves (system_below l path) period s → period ≤ 20001 → s 0 ≡ pos 0
     → i < move_count l → unsigned_abs (s i) ≤ 10000000000000
 tick_near l path s period i line solves few start lt =
     let c = (move_at l i).carrier in
@@ -139,7 +147,8 @@ tick_near l path s period i line solves few start lt =
     let zero_is : s (move_number l 0 0) ≡ s 0 = ap s (omega arith) in
     omega (arith, ints, spread l path s period c k 0 0 line keeps m first, spread l path s period 0 0 c k line keeps first m, here, zero_is, start, few)
 
-pub are_ticks : (l : LineData) (path : List Decision) (ticks : List ℤ) (period : ℕ) → IsLine l → Solves (system_below l path) period (tick_at ticks)
+pub are_ticks : (l : LineData) (path : List Decision) (ticks : List ℤ) (period : ℕ) → IsLine l
+    → Solves (system_below l path) period (tick_at ticks)
     → period ≤ 20001 → tick_at ticks 0 ≡ pos 0 → length ticks ≡ move_count l → AreTicks l ticks
 are_ticks l path ticks period line solves few start count = (
   count,

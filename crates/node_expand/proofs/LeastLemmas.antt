@@ -40,7 +40,8 @@ least_refutes l path least h =
 
 -- ---- what a climb is
 
-pub climb_is : (l : LineData) (path : List Decision) (cap : ℕ) (s : SystemData) (x y : Climbed) → s ≡ system_below l path → x ≡ climbed s cap → x ≡ y
+pub climb_is : (l : LineData) (path : List Decision) (cap : ℕ) (s : SystemData) (x y : Climbed)
+    → s ≡ system_below l path → x ≡ climbed s cap → x ≡ y
     → climbed (system_below l path) cap ≡ y
 climb_is l path cap s x y e climb is = ap (λ (b : SystemData). climbed b cap) (sym e) ∙ sym climb ∙ is
 
@@ -52,7 +53,8 @@ an_assign (TankOrder a b q) h = absurd h
 an_assign (HoistOrder a b q) h = absurd h
 an_assign (Choose v) h = absurd h
 
-pub hoists_from : (path : List Decision) (n : ℕ) → EndsInHoists path (n + 1) → IsAssign (decision_at path n).question → EndsInHoists path n
+pub hoists_from : (path : List Decision) (n : ℕ) → EndsInHoists path (n + 1) → IsAssign (decision_at path n).question
+    → EndsInHoists path n
 hoists_from path n later here i le lt =
     ⊎_elim (λ (less : n < i). later i (omega (arith, less)) lt)
     (λ (more : i ≤ n).
@@ -64,7 +66,8 @@ hoists_from path n later here i le lt =
 abbrev SameBelow : LineData → List Decision → List Decision → Type 0
 SameBelow l p p' = (arcs_of l p ≡ arcs_of l p') × (constraint_list l p ≡ constraint_list l p')
 
-hoist_same : (l : LineData) (path : List Decision) (n : ℕ) → FitsPath l path → 2 ≤ length l.stages → n < length path → IsAssign (decision_at path n).question
+hoist_same : (l : LineData) (path : List Decision) (n : ℕ) → FitsPath l path → 2 ≤ length l.stages → n < length path
+    → IsAssign (decision_at path n).question
     → SameBelow l (take n path) (take (n + 1) path)
 hoist_same l path n fits two lt here =
     let (m, is) = an_assign (decision_at path n).question here in (
@@ -72,7 +75,8 @@ hoist_same l path n fits two lt here =
       sym (names_more l path n lt ∙ ap (λ (q : Question). constraint_list l (take n path) ++ decided_by q n) is ∙ append-nil (constraint_list l (take n path))),
     )
 
-hoists_same : (l : LineData) (path : List Decision) (k n : ℕ) → FitsPath l path → 2 ≤ length l.stages → n + k ≡ length path → EndsInHoists path n
+hoists_same : (l : LineData) (path : List Decision) (k n : ℕ) → FitsPath l path → 2 ≤ length l.stages
+    → n + k ≡ length path → EndsInHoists path n
     → SameBelow l (take n path) path
 hoists_same l path zero n fits two count ends =
     let e = take_all n path (omega (arith, count)) in
@@ -84,7 +88,8 @@ hoists_same l path (suc k) n fits two count ends =
     (one.0 ∙ more.0, one.1 ∙ more.1)
 
 -- paths with the same constraints have the same least period
-same_least : (l : LineData) (p p' : List Decision) (least : LeastPeriod) → SameBelow l p p' → IsLeastPeriodOf l p least → IsLeastPeriodOf l p' least
+same_least : (l : LineData) (p p' : List Decision) (least : LeastPeriod) → SameBelow l p p' → IsLeastPeriodOf l p least
+    → IsLeastPeriodOf l p' least
 same_least l p p' least same h =
     let e : system_below l p ≡ system_below l p' = system_same l p p' same.0 in
     let C : SystemData → Type 0 = λ s. IsClosedWalk s h.walk in
@@ -101,15 +106,18 @@ same_least l p p' least same h =
       ticks = h.ticks;
     }
 
-pub least_below : (l : LineData) (path : List Decision) (n : ℕ) (least : LeastPeriod) → FitsPath l path → IsLine l → n ≤ length path → EndsInHoists path n
+pub least_below : (l : LineData) (path : List Decision) (n : ℕ) (least : LeastPeriod) → FitsPath l path → IsLine l
+    → n ≤ length path → EndsInHoists path n
     → IsLeastPeriodOf l (take n path) least → IsLeastPeriodOf l path least
 least_below l path n least fits line le ends h =
     same_least l (take n path) path least (hoists_same l path (length path - n) n fits line.limits.stages.0 (omega (arith, le)) ends) h
 
 -- a climb that is found for a path is that of the path without its decisions on hoists at the end
-pub least_found : (l : LineData) (path : List Decision) (cap k n : ℕ) (old new : Climbs) (climb : Climb) → FitsPath l path → IsLine l → AreClimbs l old
+pub least_found : (l : LineData) (path : List Decision) (cap k n : ℕ) (old new : Climbs) (climb : Climb)
+    → FitsPath l path → IsLine l → AreClimbs l old
     → new.kept ≡ old.kept → n ≤ length path → EndsInHoists path n
-    → IsClimbOf (take n path) cap new k → climb ≡ get_or new.kept.items k climb → IsLeastPeriodOf l path climb.least × (climb.least.period < cap)
+    → IsClimbOf (take n path) cap new k → climb ≡ get_or new.kept.items k climb
+    → IsLeastPeriodOf l path climb.least × (climb.least.period < cap)
 least_found l path cap k n old new climb fits line climbs same le ends (lt, of_path) is =
     let P : Vec Climb Global → Type 0 = λ kept. All (λ (x : Climb). IsLeastPeriodOf l x.path.items x.least) kept.items in
     let Q : Climb → Type 0 = λ x. IsLeastPeriodOf l x.path.items x.least in

@@ -23,18 +23,21 @@ use Rattle.node_expand.specs.declared.path_system.PathSystem.{PathSystem}
 
 -- ---- systems
 
-pub same_system : (s b : SystemData) (n : ℕ) → s.nodes ≡ b.nodes → length s.arcs ≡ length b.arcs → n ≡ length b.arcs → ((j : ℕ) → j < n → arc s j ≡ arc b j)
+pub same_system : (s b : SystemData) (n : ℕ) → s.nodes ≡ b.nodes → length s.arcs ≡ length b.arcs → n ≡ length b.arcs
+    → ((j : ℕ) → j < n → arc s j ≡ arc b j)
     → s ≡ b
 same_system s b n nodes count all same =
     let no_arc : Arc = arc (record { nodes = 0; arcs = [] }) 0 in
     system_is s b.nodes b.arcs nodes (ext_get_or no_arc s.arcs b.arcs count (λ j lt. same j (omega (arith, lt, all, count))))
 
-pub system_same : (l : LineData) (p p' : List Decision) → arcs_of l p ≡ arcs_of l p' → system_below l p ≡ system_below l p'
+pub system_same : (l : LineData) (p p' : List Decision) → arcs_of l p ≡ arcs_of l p'
+    → system_below l p ≡ system_below l p'
 system_same l p p' e = ap (λ (bs : List Arc). let r : SystemData = record { nodes = move_count l; arcs = bs } in r) e
 
 -- ---- at a path
 
-pub system_at : (l : LineData) (ds : List Decision) (at : PathSystem) → IsLine l → FitsPath l ds → length ds ≤ 20000 → IsAt l ds at → IsPathSystem l at
+pub system_at : (l : LineData) (ds : List Decision) (at : PathSystem) → IsLine l → FitsPath l ds → length ds ≤ 20000
+    → IsAt l ds at → IsPathSystem l at
 system_at l ds at line fits short here =
     let P : List Decision → Type 0 = λ xs. FitsPath l xs in
     let e = sym here.path in
@@ -45,7 +48,8 @@ system_at l ds at line fits short here =
       here = let Q : List Decision → Type 0 = λ xs. IsAt l xs at in subst Q e here;
     }
 
-pub part_at : (l : LineData) (path : List Decision) (i : ℕ) (at : PathSystem) → IsLine l → FitsPath l path → length path ≤ 20000 → IsAt l (take i path) at
+pub part_at : (l : LineData) (path : List Decision) (i : ℕ) (at : PathSystem) → IsLine l → FitsPath l path
+    → length path ≤ 20000 → IsAt l (take i path) at
     → IsPathSystem l at
 part_at l path i at line fits short here =
     system_at l (take i path) at line (fits-take l path i fits) (omega (arith, length-take i path, short)) here
@@ -90,7 +94,8 @@ pub order_name : (l : LineData) (path : List Decision) → 0 < length path → I
 order_name l path some order =
     names_last l path some ∙ ap (λ (ts : List Constraint). constraint_list l (rest path) ++ ts) (by_order (last path).question (length path - 1) order)
 
-pub order_names : (l : LineData) (path : List Decision) (n : ℕ) → 0 < length path → IsOrder (last path).question → n ≡ length (constraint_list l path) - 1
+pub order_names : (l : LineData) (path : List Decision) (n : ℕ) → 0 < length path → IsOrder (last path).question
+    → n ≡ length (constraint_list l path) - 1
     → take n (constraint_list l path) ≡ constraint_list l (rest path)
 order_names l path n some order is =
     let e = order_name l path some order in
@@ -99,7 +104,8 @@ order_names l path n some order is =
     ∙ take_at (constraint_list l (rest path)) (Decided (length path - 1) ∷ []) n
     (omega (arith, is, count, length-append (constraint_list l (rest path)) (Decided (length path - 1) ∷ [])))
 
-pub some_names : (l : LineData) (path : List Decision) → 0 < length path → IsOrder (last path).question → 1 ≤ length (constraint_list l path)
+pub some_names : (l : LineData) (path : List Decision) → 0 < length path → IsOrder (last path).question
+    → 1 ≤ length (constraint_list l path)
 some_names l path some order =
     omega (
       arith,
@@ -108,7 +114,8 @@ some_names l path some order =
           (Decided (length path - 1) ∷ []),
     )
 
-pub order_arcs : (l : LineData) (path : List Decision) (n : ℕ) → FitsPath l path → 2 ≤ length l.stages → 0 < length path → IsOrder (last path).question
+pub order_arcs : (l : LineData) (path : List Decision) (n : ℕ) → FitsPath l path → 2 ≤ length l.stages → 0 < length path
+    → IsOrder (last path).question
     → n ≡ length (constraint_list l path) - 1 → take n (arcs_of l path) ≡ arcs_of l (rest path)
 order_arcs l path n fits two some order is =
     let a = decided_arc l (take (length path - 1 + 1) path) (last path).question (last path).child in
@@ -120,14 +127,16 @@ order_arcs l path n fits two some order is =
     (omega (arith, is, count, length-append (arcs_of l (rest path)) (a ∷ []), length-map (constraint_list l path) (arc_of l path)))
 
 -- a hoist at the end has none
-pub assign_names : (l : LineData) (path : List Decision) (m : MoveId) → 0 < length path → (last path).question ≡ Assign m
+pub assign_names : (l : LineData) (path : List Decision) (m : MoveId) → 0 < length path
+    → (last path).question ≡ Assign m
     → constraint_list l path ≡ constraint_list l (rest path)
 assign_names l path m some is =
     names_last l path some
     ∙ ap (λ (q : Question). constraint_list l (rest path) ++ decided_by q (length path - 1)) is
     ∙ append-nil (constraint_list l (rest path))
 
-pub assign_arcs : (l : LineData) (path : List Decision) (m : MoveId) → FitsPath l path → 2 ≤ length l.stages → 0 < length path → (last path).question ≡ Assign m
+pub assign_arcs : (l : LineData) (path : List Decision) (m : MoveId) → FitsPath l path → 2 ≤ length l.stages
+    → 0 < length path → (last path).question ≡ Assign m
     → arcs_of l path ≡ arcs_of l (rest path)
 assign_arcs l path m fits two some is =
     ap (λ (ds : List Decision). arcs_of l ds) (sym (whole path some)) ∙ assigned_same l path (length path - 1) m fits two (omega (arith, some)) is
@@ -135,7 +144,8 @@ assign_arcs l path m fits two some is =
 -- ---- prefixes
 
 -- what two paths begin with in common
-pub prefix_there : (xs ys zs : List Decision) (n : ℕ) → IsPrefix xs ys → length xs ≤ n → take n ys ≡ take n zs → xs ≡ take (length xs) zs
+pub prefix_there : (xs ys zs : List Decision) (n : ℕ) → IsPrefix xs ys → length xs ≤ n → take n ys ≡ take n zs
+    → xs ≡ take (length xs) zs
 prefix_there xs ys zs n prefix le same =
     let k = length xs in
     let least : (ws : List Decision) → take k (take n ws) ≡ take k ws = λ ws. take-take k n ws (omega (arith, le)) in
@@ -146,7 +156,8 @@ prefix_on xs ys zs a b le = prefix_there xs ys zs (length ys) a le (take_all (le
 
 -- ---- a path that grows
 
-pub path_more : (path : List Decision) (i : ℕ) (d e : Decision) (old new : List Decision) → i < length path → d ≡ get_or path i e → old ≡ take i path
+pub path_more : (path : List Decision) (i : ℕ) (d e : Decision) (old new : List Decision) → i < length path
+    → d ≡ get_or path i e → old ≡ take i path
     → new ≡ old ++ d ∷ [] → new ≡ take (i + 1) path
 path_more path i d e old new lt is before pushed =
     pushed ∙ ap (λ (ds : List Decision). ds ++ d ∷ []) before ∙ ap (λ (x : Decision). take i path ++ x ∷ []) is ∙ sym (take_more path i e lt)
@@ -159,7 +170,8 @@ pub begins_same : {A : Type 0} (old new : List A) → new ≡ old → take (leng
 begins_same old new e = ap (λ xs. take (length old) xs) e ∙ take_all (length old) old (omega arith)
 
 -- the last decision as the code reads it
-pub last_read : (path : List Decision) (i : ℕ) (d : Decision) → 0 < length path → i ≡ length path - 1 → d ≡ get_or path i d → d ≡ last path
+pub last_read : (path : List Decision) (i : ℕ) (d : Decision) → 0 < length path → i ≡ length path - 1
+    → d ≡ get_or path i d → d ≡ last path
 last_read path i d some is read =
     read ∙ ap (λ (n : ℕ). get_or path n d) is ∙ get_or_default path (length path - 1) d no_decision (omega (arith, some))
 
@@ -169,7 +181,8 @@ abbrev made : Vec Decision Global → SystemData → Vec Constraint Global → S
 made path system names base = record { path = path; system = system; names = names; base = base }
 
 pub back_at : (l : LineData) (at : PathSystem) (i : ℕ) (path : Vec Decision Global) (system : SystemData) (names : Vec Constraint Global)
-    → IsPathSystem l at → i ≡ length at.path.items - 1 → path.items ≡ take i at.path.items → system ≡ system_below l (rest at.path.items)
+    → IsPathSystem l at → i ≡ length at.path.items - 1 → path.items ≡ take i at.path.items
+    → system ≡ system_below l (rest at.path.items)
     → names.items ≡ constraint_list l (rest at.path.items)
     → IsPathSystem l (made path system names at.base)
 back_at l at i path system names from is cut system_is names_is =
@@ -178,7 +191,8 @@ back_at l at i path system names from is cut system_is names_is =
     (record { path = e; system = system_is; names = names_is; base = from.here.base })
 
 pub back_assign : (l : LineData) (at : PathSystem) (i : ℕ) (d : Decision) (m : MoveId) (path : Vec Decision Global)
-    → IsPathSystem l at → 0 < length at.path.items → i ≡ length at.path.items - 1 → path.items ≡ take i at.path.items → d ≡ get_or at.path.items i d
+    → IsPathSystem l at → 0 < length at.path.items → i ≡ length at.path.items - 1 → path.items ≡ take i at.path.items
+    → d ≡ get_or at.path.items i d
     → d.question ≡ Assign m
     → IsPathSystem l (made path at.system at.names at.base)
 back_assign l at i d m path from some is cut read assign =
@@ -188,14 +202,17 @@ back_assign l at i d m path from some is cut read assign =
     (from.here.system ∙ system_same l ds (rest ds) (assign_arcs l ds m from.fits from.valid.limits.stages.0 some question))
     (from.here.names ∙ assign_names l ds m some question)
 
-pub order_last : (path : List Decision) (i : ℕ) (d : Decision) → 0 < length path → i ≡ length path - 1 → d ≡ get_or path i d → IsOrder d.question
+pub order_last : (path : List Decision) (i : ℕ) (d : Decision) → 0 < length path → i ≡ length path - 1
+    → d ≡ get_or path i d → IsOrder d.question
     → IsOrder (last path).question
 order_last path i d some is read order = let P : Decision → Type 0 = λ x. IsOrder x.question in subst P (last_read path i d some is read) order
 
 pub back_order : (l : LineData) (at : PathSystem) (i n : ℕ) (d : Decision) (path : Vec Decision Global) (system : SystemData) (names : Vec Constraint Global)
-    → IsPathSystem l at → 0 < length at.path.items → i ≡ length at.path.items - 1 → path.items ≡ take i at.path.items → d ≡ get_or at.path.items i d
+    → IsPathSystem l at → 0 < length at.path.items → i ≡ length at.path.items - 1 → path.items ≡ take i at.path.items
+    → d ≡ get_or at.path.items i d
     → IsOrder d.question
-    → n ≡ length at.names.items - 1 → names.items ≡ take n at.names.items → system ≡ record { nodes = at.system.nodes; arcs = take n at.system.arcs }
+    → n ≡ length at.names.items - 1 → names.items ≡ take n at.names.items
+    → system ≡ record { nodes = at.system.nodes; arcs = take n at.system.arcs }
     → IsPathSystem l (made path system names at.base)
 back_order l at i n d path system names from some is cut read order count names_are system_is =
     let ds = at.path.items in
@@ -211,7 +228,8 @@ back_order l at i n d path system names from some is cut read order count names_
 
 -- ---- one decision more
 
-pub names_next : (l : LineData) (path : List Decision) (i : ℕ) (d e : Decision) (old new : List Constraint) → i < length path → d ≡ get_or path i e
+pub names_next : (l : LineData) (path : List Decision) (i : ℕ) (d e : Decision) (old new : List Constraint)
+    → i < length path → d ≡ get_or path i e
     → old ≡ constraint_list l (take i path) → new ≡ old ++ decided_by d.question i
     → new ≡ constraint_list l (take (i + 1) path)
 names_next l path i d e old new lt read before pushed =
@@ -221,6 +239,7 @@ names_next l path i d e old new lt read before pushed =
     ∙ sym (names_more l path i lt)
 
 pub outgrows : (old : PathSystem) (path : Vec Decision Global) (system : SystemData) (names : Vec Constraint Global)
-    → take (length old.path.items) path.items ≡ old.path.items → take (length old.names.items) names.items ≡ old.names.items → system ≡ old.system
+    → take (length old.path.items) path.items ≡ old.path.items
+    → take (length old.names.items) names.items ≡ old.names.items → system ≡ old.system
     → Outgrows old (made path system names old.base)
 outgrows old path system names p n s = record { path = p; names = n; system = s; base = refl }

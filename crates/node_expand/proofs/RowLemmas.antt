@@ -24,7 +24,8 @@ row_more f first n m k before now next e is so_far pushed =
     ∙ ap (λ (xs : List Constraint). before ++ xs) (sym (map-append f (numbers_from first n) (k ∷ [])))
     ∙ ap (λ (xs : List ℕ). before ++ map f xs) (sym (numbers_next first n m k e is))
 
-pub rows_more : (row : ℕ → List Constraint) (first n m k : ℕ) (before now next : List Constraint) → m ≡ n + 1 → k ≡ first + n
+pub rows_more : (row : ℕ → List Constraint) (first n m k : ℕ) (before now next : List Constraint) → m ≡ n + 1
+    → k ≡ first + n
     → now ≡ before ++ flat_map row (numbers_from first n) → next ≡ now ++ row k
     → next ≡ before ++ flat_map row (numbers_from first m)
 rows_more row first n m k before now next e is so_far pushed =
@@ -54,13 +55,15 @@ repeat_row l c = map (λ k. Repeat c k) (steps l)
 abbrev pub AreRows : List Constraint → (ℕ → List Constraint) → ℕ → List Constraint → Type 0
 AreRows before row c names = names ≡ before ++ flat_map row (numbers_from 0 c)
 
-pub carrier_more : (row : ℕ → List Constraint) (c : ℕ) (before now next : List Constraint) → AreRows before row c now → next ≡ now ++ row c
+pub carrier_more : (row : ℕ → List Constraint) (c : ℕ) (before now next : List Constraint) → AreRows before row c now
+    → next ≡ now ++ row c
     → AreRows before row (c + 1) next
 carrier_more row c before now next so_far pushed = rows_more row 0 c (c + 1) c before now next (omega arith) (omega arith) so_far pushed
 
 pub no_carrier : (row : ℕ → List Constraint) (before : List Constraint) → AreRows before row 0 before
 no_carrier row before = sym (append-nil before)
 
-pub all_carriers : (row : ℕ → List Constraint) (l : LineData) (c : ℕ) (before now : List Constraint) → c ≡ l.degree → AreRows before row c now
+pub all_carriers : (row : ℕ → List Constraint) (l : LineData) (c : ℕ) (before now : List Constraint) → c ≡ l.degree
+    → AreRows before row c now
     → now ≡ before ++ by_carrier l row
 all_carriers row l c before now e so_far = so_far ∙ ap (λ (n : ℕ). before ++ flat_map row (numbers_from 0 n)) e

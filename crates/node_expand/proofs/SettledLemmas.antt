@@ -37,7 +37,8 @@ some_one (Some x) h = (x, refl)
 
 -- ---- tanks
 
-pub tanks_settled : (l : LineData) (path : List Decision) (s : ℕ → ℤ) (period : ℕ) → IsLine l → IsFirstQuestion l path s period None → HasTanks l path
+pub tanks_settled : (l : LineData) (path : List Decision) (s : ℕ → ℤ) (period : ℕ) → IsLine l
+    → IsFirstQuestion l path s period None → HasTanks l path
 tanks_settled l path s period line none c k visit =
     some_is (tank_below l path c k) _
     (one_by (stage l k).tanks (choice_of path c k) (line.stages.count k visit.1).0
@@ -48,14 +49,16 @@ tanks_settled l path s period line none c k visit =
     (cases_lt (length (stage l k).tanks) 2)))
 
 -- the first tank as the code reads it
-pub tank_read : (l : LineData) (path : List Decision) (c k : ℕ) (ts : List ℕ) → ts ≡ tanks_below l path c k → IsSome (tank_below l path c k)
+pub tank_read : (l : LineData) (path : List Decision) (c k : ℕ) (ts : List ℕ) → ts ≡ tanks_below l path c k
+    → IsSome (tank_below l path c k)
     → tank_below l path c k ≡ Some (get_or ts 0 0)
 tank_read l path c k ts is some =
     let t = some_one (tank_below l path c k) some in
     let one = tanks_are l path c k t.0 t.1 in
     t.1 ∙ ap (λ (n : ℕ). Some n) (sym (ap (λ (xs : List ℕ). get_or xs 0 0) (is ∙ one)))
 
-serve_by : (tanks : List ℕ) (o : Option ℕ) (t : ℕ) → one_of (tanks_by tanks o) ≡ Some t → ((n : ℕ) → o ≡ Some n → n < length tanks) → Contains tanks t
+serve_by : (tanks : List ℕ) (o : Option ℕ) (t : ℕ) → one_of (tanks_by tanks o) ≡ Some t
+    → ((n : ℕ) → o ≡ Some n → n < length tanks) → Contains tanks t
 serve_by tanks (Some n) t e there =
     let same : get_or tanks n 0 ≡ t = cc in
     let P : ℕ → Type 0 = λ i. Contains tanks i in
@@ -64,7 +67,8 @@ serve_by [] None t e there = cc
 serve_by (x ∷ []) None t e there = let same : x ≡ t = cc in (0, omega arith, same)
 serve_by (x ∷ y ∷ ys) None t e there = cc
 
-pub tank_serves : (l : LineData) (path : List Decision) (c k t : ℕ) → FitsPath l path → tank_below l path c k ≡ Some t → Serves l t k
+pub tank_serves : (l : LineData) (path : List Decision) (c k t : ℕ) → FitsPath l path → tank_below l path c k ≡ Some t
+    → Serves l t k
 tank_serves l path c k t fits e = serve_by (stage l k).tanks (choice_of path c k) t e (λ n h. choice_there l path c k n fits h)
 
 -- ---- motions and hoists
@@ -78,7 +82,8 @@ got [] n lt = absurd (omega (arith, lt))
 got (x ∷ xs) zero lt = refl
 got (x ∷ xs) (suc n) lt = got xs n (omega (arith, lt))
 
-some_by : (hs : List ℕ) (o : Option ℕ) → (o ≡ None → length hs ≡ 1) → ((n : ℕ) → o ≡ Some n → n < length hs) → IsSome (hoist_by hs o)
+some_by : (hs : List ℕ) (o : Option ℕ) → (o ≡ None → length hs ≡ 1) → ((n : ℕ) → o ≡ Some n → n < length hs)
+    → IsSome (hoist_by hs o)
 some_by [] None one there = absurd (omega (arith, one refl))
 some_by [] (Some n) one there = absurd (omega (arith, there n refl))
 some_by (h ∷ []) o one there = refl
@@ -86,7 +91,8 @@ some_by (h ∷ g ∷ hs) None one there = absurd (omega (arith, one refl))
 some_by (h ∷ g ∷ hs) (Some n) one there = got (h ∷ g ∷ hs) n (there n refl)
 
 -- the hoist of an Assign is one of those that reach the move
-assigned_there : (l : LineData) (path : List Decision) (c k n : ℕ) (m : Motion) → FitsPath l path → assigned_of path c k ≡ Some n
+assigned_there : (l : LineData) (path : List Decision) (c k n : ℕ) (m : Motion) → FitsPath l path
+    → assigned_of path c k ≡ Some n
     → motion_below l path c k ≡ Some m → n < length (hoists_reaching l m)
 assigned_there l path c k n m fits e is =
     let r = assigned path c k n e in
@@ -103,7 +109,8 @@ assigned_there l path c k n m fits e is =
     let list : hoists_below l above r.move.carrier r.move.step ≡ hoists_reaching l m = ap (λ (o : Option Motion). hoists_by l o) (found.1 ∙ same) in
     omega (arith, here, ap (λ (hs : List ℕ). length hs) list, r.child)
 
-pub hoists_settled : (l : LineData) (path : List Decision) (s : ℕ → ℤ) (period : ℕ) → IsLine l → FitsPath l path → IsFirstQuestion l path s period None
+pub hoists_settled : (l : LineData) (path : List Decision) (s : ℕ → ℤ) (period : ℕ) → IsLine l → FitsPath l path
+    → IsFirstQuestion l path s period None
     → HasHoists l path
 hoists_settled l path s period line fits none c k move =
     let tanks = tanks_settled l path s period line none in
@@ -131,7 +138,8 @@ some_in [] x h = absurd h
 some_in (y ∷ ys) x h = omega arith
 
 -- some hoist reaches a move with one motion that some hoist may reach
-reached_by_some : (l : LineData) (path : List Decision) (c k : ℕ) (m : Motion) → NoneStuck l path → IsMove l c k → motion_below l path c k ≡ Some m
+reached_by_some : (l : LineData) (path : List Decision) (c k : ℕ) (m : Motion) → NoneStuck l path → IsMove l c k
+    → motion_below l path c k ≡ Some m
     → length (hoists_reaching l m) ≡ 0 → ⊥
 reached_by_some l path c k m free move is zero_is =
     let r = settled_motion l path c k m is in
@@ -173,7 +181,8 @@ some_children l path (Choose v) line free f = (f.stands.several, omega (arith, (
 -- ---- lists by number
 
 -- what is noted for each number below a count is noted for each carrier and stage or step
-pub by_number : (P : ℕ → ℕ → ℕ → Type 0) (d m n : ℕ) (xs : List ℕ) → n ≡ d * m → ((j : ℕ) → j < n → P (j / m) (j % m) (get_or xs j 0)) → (c k : ℕ) → c < d
+pub by_number : (P : ℕ → ℕ → ℕ → Type 0) (d m n : ℕ) (xs : List ℕ) → n ≡ d * m
+    → ((j : ℕ) → j < n → P (j / m) (j % m) (get_or xs j 0)) → (c k : ℕ) → c < d
     → k < m → P c k (get_or xs (c * m + k) 0)
 by_number P d m n xs count all c k lt lt' =
     let step = mul-le (c + 1) m d m (omega (arith, lt)) (omega arith) in
@@ -183,7 +192,8 @@ by_number P d m n xs count all c k lt lt' =
     subst R (mod-mul-add c m k lt') (subst Q (div-mul-add c m k lt') h)
 
 -- one number more is noted
-pub noted_more : (F : ℕ → Option ℕ) (xs ys : List ℕ) (n t : ℕ) → length xs ≡ n → ((j : ℕ) → j < n → F j ≡ Some (get_or xs j 0)) → F n ≡ Some t
+pub noted_more : (F : ℕ → Option ℕ) (xs ys : List ℕ) (n t : ℕ) → length xs ≡ n
+    → ((j : ℕ) → j < n → F j ≡ Some (get_or xs j 0)) → F n ≡ Some t
     → ys ≡ xs ++ t ∷ []
     → (length ys ≡ n + 1) × ((j : ℕ) → j < n + 1 → F j ≡ Some (get_or ys j 0))
 noted_more F xs ys n t count all is pushed = (

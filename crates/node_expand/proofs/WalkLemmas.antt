@@ -27,18 +27,22 @@ no_arc = record { from = 0; to = 0; w = pos 0; q = pos 0 }
 abbrev pub name : LineData → List Decision → ℕ → Constraint
 name l path k = get_or (constraint_list l path) k (Entry 0)
 
-in_names : (l : LineData) (path : List Decision) (k : ℕ) → k < length (arcs_of l path) → k < length (constraint_list l path)
+in_names : (l : LineData) (path : List Decision) (k : ℕ) → k < length (arcs_of l path)
+    → k < length (constraint_list l path)
 in_names l path k lt = omega (arith, lt, length-map (constraint_list l path) (arc_of l path))
 
-pub arc_named : (l : LineData) (path : List Decision) (k : ℕ) → k < length (arcs_of l path) → arc (system_below l path) k ≡ arc_of l path (name l path k)
+pub arc_named : (l : LineData) (path : List Decision) (k : ℕ) → k < length (arcs_of l path)
+    → arc (system_below l path) k ≡ arc_of l path (name l path k)
 arc_named l path k lt = get_or-map (arc_of l path) (constraint_list l path) k (Entry 0) no_arc (in_names l path k lt)
 
-pub name_there : (l : LineData) (path : List Decision) (k : ℕ) → k < length (arcs_of l path) → IsConstraint l path (name l path k)
+pub name_there : (l : LineData) (path : List Decision) (k : ℕ) → k < length (arcs_of l path)
+    → IsConstraint l path (name l path k)
 name_there l path k lt = from_list l path (name l path k) (in_at (constraint_list l path) k (Entry 0) (in_names l path k lt))
 
 -- ---- walks
 
-pub walks_named : (l : LineData) (path : List Decision) (i : ℕ) (ks : List ℕ) (j : ℕ) → closed.Walks (system_below l path) i ks j
+pub walks_named : (l : LineData) (path : List Decision) (i : ℕ) (ks : List ℕ) (j : ℕ)
+    → closed.Walks (system_below l path) i ks j
     → Walks l path i (map (name l path) ks) j
 walks_named l path i [] j h = h
 walks_named l path i (k ∷ ks) j h =
@@ -47,7 +51,8 @@ walks_named l path i (k ∷ ks) j h =
     let on : closed.Walks (system_below l path) (arc_of l path (name l path k)).to ks j = subst P (ap (λ (a : Arc). a.to) e) h.2 in
     (name_there l path k h.0, ap (λ (a : Arc). a.from) (sym e) ∙ h.1, walks_named l path (arc_of l path (name l path k)).to ks j on)
 
-closed_list : (l : LineData) (path : List Decision) (n : ℕ) (ks : List ℕ) → 1 ≤ length ks → closed.Walks (system_below l path) n ks n
+closed_list : (l : LineData) (path : List Decision) (n : ℕ) (ks : List ℕ) → 1 ≤ length ks
+    → closed.Walks (system_below l path) n ks n
     → IsClosedWalk l path (map (name l path) ks)
 closed_list l path n [] some h = absurd (omega (arith, some))
 closed_list l path n (k ∷ ks) some h =
@@ -55,25 +60,29 @@ closed_list l path n (k ∷ ks) some h =
     let P : ℕ → Type 0 = λ m. Walks l path m (map (name l path) (k ∷ ks)) m in
     subst P (sym w.1) w
 
-pub closed_named : (l : LineData) (path : List Decision) (walk : WalkData) → closed.IsClosedWalk (system_below l path) walk
+pub closed_named : (l : LineData) (path : List Decision) (walk : WalkData)
+    → closed.IsClosedWalk (system_below l path) walk
     → IsClosedWalk l path (named l path walk)
 closed_named l path walk h = closed_list l path h.node walk.arcs h.some h.leads
 
-w_named : (l : LineData) (path : List Decision) (i : ℕ) (ks : List ℕ) (j : ℕ) → closed.Walks (system_below l path) i ks j
+w_named : (l : LineData) (path : List Decision) (i : ℕ) (ks : List ℕ) (j : ℕ)
+    → closed.Walks (system_below l path) i ks j
     → system.sum_w (system_below l path) ks ≡ sum_w l path (map (name l path) ks)
 w_named l path i [] j h = refl
 w_named l path i (k ∷ ks) j h =
     let e = ap (λ (a : Arc). a.w) (arc_named l path k h.0) in
     omega (arith, ints, e, w_named l path (arc (system_below l path) k).to ks j h.2)
 
-q_named : (l : LineData) (path : List Decision) (i : ℕ) (ks : List ℕ) (j : ℕ) → closed.Walks (system_below l path) i ks j
+q_named : (l : LineData) (path : List Decision) (i : ℕ) (ks : List ℕ) (j : ℕ)
+    → closed.Walks (system_below l path) i ks j
     → system.sum_q (system_below l path) ks ≡ sum_q l path (map (name l path) ks)
 q_named l path i [] j h = refl
 q_named l path i (k ∷ ks) j h =
     let e = ap (λ (a : Arc). a.q) (arc_named l path k h.0) in
     omega (arith, ints, e, q_named l path (arc (system_below l path) k).to ks j h.2)
 
-pub refutes_named : (l : LineData) (path : List Decision) (walk : WalkData) (period : ℕ) → closed.IsClosedWalk (system_below l path) walk
+pub refutes_named : (l : LineData) (path : List Decision) (walk : WalkData) (period : ℕ)
+    → closed.IsClosedWalk (system_below l path) walk
     → Refutes walk.w walk.q period → RefutesPeriod l path period (named l path walk)
 refutes_named l path walk period h gives =
     let w = h.w ∙ w_named l path h.node walk.arcs h.node h.leads in
@@ -83,12 +92,14 @@ refutes_named l path walk period h gives =
     subst Q q (subst P w gives)
 
 -- a walk's constraints are those of the system
-pub walk_there : (s : SystemData) (i : ℕ) (ks : List ℕ) (j : ℕ) → closed.Walks s i ks j → (k : ℕ) → k < length ks → get_or ks k 0 < length s.arcs
+pub walk_there : (s : SystemData) (i : ℕ) (ks : List ℕ) (j : ℕ) → closed.Walks s i ks j → (k : ℕ) → k < length ks
+    → get_or ks k 0 < length s.arcs
 walk_there s i [] j h k lt = absurd (omega (arith, lt))
 walk_there s i (x ∷ ks) j h zero lt = h.0
 walk_there s i (x ∷ ks) j h (suc k) lt = walk_there s (arc s x).to ks j h.2 k (omega (arith, lt))
 
-pub short_named : (l : LineData) (path : List Decision) (walk : WalkData) → closed.IsClosedWalk (system_below l path) walk → IsShortWalk (named l path walk)
+pub short_named : (l : LineData) (path : List Decision) (walk : WalkData)
+    → closed.IsClosedWalk (system_below l path) walk → IsShortWalk (named l path walk)
 short_named l path walk h =
     let n = length-map walk.arcs (name l path) in
     (omega (arith, n, h.some), omega (arith, n, h.few))
@@ -98,14 +109,16 @@ short_named l path walk h =
 abbrev pub names_of : LineData → List Decision → Option WalkData → Option (List Constraint)
 names_of l path walk = option_map (named l path) walk
 
-gives_named : (l : LineData) (path : List Decision) (walk : Option WalkData) (period : ℕ) → IfSome walk (closed.IsClosedWalk (system_below l path))
+gives_named : (l : LineData) (path : List Decision) (walk : Option WalkData) (period : ℕ)
+    → IfSome walk (closed.IsClosedWalk (system_below l path))
     → Gives walk period
     → (names : List Constraint) × In (option_to_list (names_of l path walk)) names × RefutesPeriod l path period names
 gives_named l path None period h gives = absurd gives
 gives_named l path (Some walk) period h gives = (named l path walk, inl refl, refutes_named l path walk period h gives)
 
 closed_names : (l : LineData) (path : List Decision) (walk : Option WalkData) (names : List Constraint)
-    → IfSome walk (closed.IsClosedWalk (system_below l path)) → In (option_to_list (names_of l path walk)) names → IsClosedWalk l path names
+    → IfSome walk (closed.IsClosedWalk (system_below l path)) → In (option_to_list (names_of l path walk)) names
+    → IsClosedWalk l path names
 closed_names l path None names h there = absurd there
 closed_names l path (Some walk) names h there =
     ⊎_elim (λ e. let P : List Constraint → Type 0 = λ ts. IsClosedWalk l path ts in subst P e (closed_named l path walk h)) (λ none. absurd none) there
@@ -123,7 +136,8 @@ in_one [] ys x h = inr h
 in_one (y ∷ xs) ys x h = ⊎_elim (λ e. inl (inl e)) (λ more. ⊎_elim (λ a. inl (inr a)) (λ b. inr b) (in_one xs ys x more)) h
 
 -- two walks that refute every period below a bound
-pub refute_two : (l : LineData) (path : List Decision) (low high : Option WalkData) (bound : ℕ) → IfSome low (closed.IsClosedWalk (system_below l path))
+pub refute_two : (l : LineData) (path : List Decision) (low high : Option WalkData) (bound : ℕ)
+    → IfSome low (closed.IsClosedWalk (system_below l path))
     → IfSome high (closed.IsClosedWalk (system_below l path))
     → ((t : ℕ) → 1 ≤ t → t < bound → Gives low t ⊎ Gives high t)
     → RefuteBelow l path (option_to_list (names_of l path low) ++ option_to_list (names_of l path high)) bound
@@ -141,7 +155,8 @@ refute_two l path low high bound a b gives =
     }
 
 -- one walk that does
-pub refute_one : (l : LineData) (path : List Decision) (walk : WalkData) (bound : ℕ) → closed.IsClosedWalk (system_below l path) walk
+pub refute_one : (l : LineData) (path : List Decision) (walk : WalkData) (bound : ℕ)
+    → closed.IsClosedWalk (system_below l path) walk
     → ((t : ℕ) → 1 ≤ t → t < bound → Refutes walk.w walk.q t)
     → RefuteBelow l path (named l path walk ∷ []) bound
 refute_one l path walk bound h gives =

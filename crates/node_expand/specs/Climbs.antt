@@ -31,8 +31,8 @@ IsAssign (Choose v) = ⊥
 abbrev pub EndsInHoists : List Decision → ℕ → Type 0
 EndsInHoists path n = (i : ℕ) → n ≤ i → i < length path → IsAssign (decision_at path i).question
 
--- the climb over the path's system ends at this period with this walk, whatever cap above the period it is under; the walk
--- refutes every smaller period, and these are the least ticks at the period
+-- the climb over the path's system ends at this period with this walk, whatever cap above the period it is under; the
+-- walk refutes every smaller period, and these are the least ticks at the period
 pub record IsLeastPeriodOf (l : LineData) (path : List Decision) (least : LeastPeriod) : Type 0 where
   pub walk : WalkData
   pub some : 1 ≤ least.period

@@ -48,8 +48,8 @@ pub record IsFloor (l : LineData) (path : List Decision) (cap period : ℕ) (low
   pub climb : climbed (system_below l path) cap ≡ Floor period (Some walk)
   pub names : low ≡ named l path walk
 
--- Some move that no hoist may reach comes before all else. Then the climb tells whether a period below the cap is feasible;
--- at the least such period the least ticks tell which question is the first, or that there is none.
+-- Some move that no hoist may reach comes before all else. Then the climb tells whether a period below the cap is
+-- feasible; at the least such period the least ticks tell which question is the first, or that there is none.
 abbrev pub IsExpansion : LineData → List Decision → ℕ → Expanded → Type 0
 IsExpansion l path cap (Stuck m) = IsFirstStuck l path m
 IsExpansion l path cap (Closed low high) = NoneStuck l path × IsShut l path cap low high

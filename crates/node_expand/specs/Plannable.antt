@@ -30,5 +30,6 @@ pub record IsPlannable (l : LineData) (s : Solved) : Type 0 where
   pub path : List Decision
   pub fits : FitsPath l path
   pub settles : Settles l path s
-  pub constraints : (t : Constraint) → IsUndecided t → IsConstraint l path t → Keeps (tick_at s.ticks) s.period (arc_of l path t)
+  pub constraints : (t : Constraint) → IsUndecided t → IsConstraint l path t
+      → Keeps (tick_at s.ticks) s.period (arc_of l path t)
   pub orders : (x : Question) → IsOrder x → Stands l path x → Fails l path (tick_at s.ticks) s.period x → ⊥

@@ -10,8 +10,8 @@ use Rattle.node_expand.specs.declared.expanded.Expanded.{Expanded}
 use Rattle.node_expand.specs.declared.expanded.Expanded.TheVariants.{Stuck, Closed, Solved, Split}
 use Rattle.node_expand.specs.Plannable.{IsPlannable}
 
--- no hoist may reach the move; or closed walks refute every period below the cap; or below that of the solved path, which can
--- be planned; or below that of the split, whose question fits and has two to six children
+-- no hoist may reach the move; or closed walks refute every period below the cap; or below that of the solved path,
+-- which can be planned; or below that of the split, whose question fits and has two to six children
 abbrev pub Shows : LineData → List Decision → ℕ → Expanded → Type 0
 Shows l path cap (Stuck m) = IsMove l m.carrier m.step × IsStuck l path m.carrier m.step
 Shows l path cap (Closed low high) = RefuteBelow l path (option_to_list low ++ option_to_list high) cap

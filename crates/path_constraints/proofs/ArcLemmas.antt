@@ -29,7 +29,8 @@ names_order l path (TankOrder a b q) f = (f.stands.first, f.stands.second, f.sma
 names_order l path (HoistOrder a b q) f = (f.stands.first, f.stands.second, f.small)
 names_order l path (Choose v) f = tt
 
-pub decision_names : (l : LineData) (path : List Decision) (i : ℕ) → FitsPath l path → i < length path → NamesOrder l (decision_at path i).question
+pub decision_names : (l : LineData) (path : List Decision) (i : ℕ) → FitsPath l path → i < length path
+    → NamesOrder l (decision_at path i).question
 decision_names l path i fits lt = names_order l (take i path) (decision_at path i).question (fits i lt).question
 
 -- ---- bounds on the line's numbers
@@ -48,7 +49,8 @@ pub lower_small : (l : LineData) (k : ℕ) → IsLine l → IsStep l k → (stag
 lower_small l k line step = (line.times.lower k step).1
 
 -- child 1 of a TankOrder
-pub second_arc : (l : LineData) (path : List Decision) (a b : VisitId) (q q' : ℤ) (child : ℕ) (x y : Moment) (r : Arc) → (child ≡ 0 → ⊥)
+pub second_arc : (l : LineData) (path : List Decision) (a b : VisitId) (q q' : ℤ) (child : ℕ) (x y : Moment) (r : Arc)
+    → (child ≡ 0 → ⊥)
     → x ≡ end_of l (low l path) b.carrier b.stage → y ≡ begin_of l (low l path) a.carrier a.stage → q' ≡ neg_ℤ q
     → r ≡ moment_arc l x y q' → r ≡ tank_arc l path a b q child
 second_arc l path a b q q' child x y r not ex ey eq is =
@@ -59,7 +61,8 @@ second_arc l path a b q q' child x y r not ex ey eq is =
     (moment_arc l e (begin_of l (low l path) a.carrier a.stage) (neg_ℤ q))) (ne_eqb child 0 not))
 
 -- the code's reading of a stage
-pub stage_read : (l : LineData) (k : ℕ) (s : Stage) (xs : List Stage) → xs ≡ l.stages → k < length l.stages → get_or xs k s ≡ stage l k
+pub stage_read : (l : LineData) (k : ℕ) (s : Stage) (xs : List Stage) → xs ≡ l.stages → k < length l.stages
+    → get_or xs k s ≡ stage l k
 stage_read l k s xs all lt =
     let lt' : k < length xs = omega (arith, lt, ap (λ (ys : List Stage). length ys) all) in
     get_or_default xs k s no_stage lt' ∙ ap (λ (ys : List Stage). get_or ys k no_stage) all
@@ -67,7 +70,8 @@ stage_read l k s xs all lt =
 abbrev arc_by : ℕ → ℕ → ℤ → ℤ → Arc
 arc_by from to w q = record { from = from; to = to; w = w; q = q }
 
-pub moment_is : (l : LineData) (x y : Moment) (q : ℤ) (from to : ℕ) (w q' : ℤ) → from ≡ move_number l x.carrier x.step → to ≡ move_number l y.carrier y.step
+pub moment_is : (l : LineData) (x y : Moment) (q : ℤ) (from to : ℕ) (w q' : ℤ) → from ≡ move_number l x.carrier x.step
+    → to ≡ move_number l y.carrier y.step
     → w ≡ x.fixed -ℤ y.fixed → q' ≡ neg_ℤ q
     → arc_by from to w q' ≡ moment_arc l x y q
 moment_is l x y q from to w q' e f g h =

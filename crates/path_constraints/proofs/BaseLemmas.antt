@@ -55,11 +55,13 @@ few_decided i (d ∷ ds) = omega (arith, length-append (decided_by d.question i)
     one (HoistOrder a b q) = omega arith
     one (Choose v) = omega arith
 
-pub arcs_count : (l : LineData) (path : List Decision) → length (arcs_of l path) ≡ undecided_count l + length (decided_list 0 path)
+pub arcs_count : (l : LineData) (path : List Decision)
+    → length (arcs_of l path) ≡ undecided_count l + length (decided_list 0 path)
 arcs_count l path =
     omega (arith, length-map (constraint_list l path) (arc_of l path), length-append (undecided_list l) (decided_list 0 path), length_undecided l)
 
-pub arcs_few : (l : LineData) (path : List Decision) (i : ℕ) → IsLine l → i < 20000 → length (arcs_of l (take i path)) < 30000
+pub arcs_few : (l : LineData) (path : List Decision) (i : ℕ) → IsLine l → i < 20000
+    → length (arcs_of l (take i path)) < 30000
 arcs_few l path i line lt =
     omega (arith, arcs_count l (take i path), undecided_small l line, few_decided 0 (take i path), length-take i path, lt)
 
@@ -79,7 +81,8 @@ blank_length : (n : ℕ) (a : Arc) → length (replicate n a) ≡ n
 blank_length zero a = refl
 blank_length (suc n) a = ap (λ (m : ℕ). suc m) (blank_length n a)
 
-pub blank_system : (l : LineData) (n m : ℕ) (xs : List Arc) → IsLine l → n ≡ move_count l → m ≡ undecided_count l → xs ≡ replicate m no_arc
+pub blank_system : (l : LineData) (n m : ℕ) (xs : List Arc) → IsLine l → n ≡ move_count l → m ≡ undecided_count l
+    → xs ≡ replicate m no_arc
     → IsSystem (record { nodes = n; arcs = xs })
 blank_system l n m xs line e f is =
     let d = line.limits.degree in
@@ -116,11 +119,13 @@ steps_undecided c n t h = ⊎_elim (λ e. is_undecided (Entry c) t tt e) (λ r. 
 pub move_is_undecided : (c k : ℕ) (t : Constraint) → IsOfMove c k t → IsUndecided t
 move_is_undecided c k t h = steps_undecided c (k + 1) t (inr (k, omega arith, h))
 
-pub steps_none : (l : LineData) (path : List Decision) (c : ℕ) (a b : SystemData) → Rewrites l path (λ t. t ≡ Entry c) a b → Rewrites l path (IsOfSteps c 0) a b
+pub steps_none : (l : LineData) (path : List Decision) (c : ℕ) (a b : SystemData)
+    → Rewrites l path (λ t. t ≡ Entry c) a b → Rewrites l path (IsOfSteps c 0) a b
 steps_none l path c a b r =
     rewrites_as l path (λ t. t ≡ Entry c) (IsOfSteps c 0) a b (λ t h k. ⊎_elim (λ e. e) (λ w. absurd (omega (arith, w.1))) k) (λ t h e. inl e) r
 
-pub steps_more : (l : LineData) (path : List Decision) (c n : ℕ) (a b d : SystemData) → 2 ≤ length l.stages → Rewrites l path (IsOfSteps c n) a b
+pub steps_more : (l : LineData) (path : List Decision) (c n : ℕ) (a b d : SystemData) → 2 ≤ length l.stages
+    → Rewrites l path (IsOfSteps c n) a b
     → Rewrites l path (IsOfMove c n) b d → Rewrites l path (IsOfSteps c (n + 1)) a d
 steps_more l path c n a b d two r s =
     rewrites_as l path (λ t. IsOfSteps c n t ⊎ IsOfMove c n t) (IsOfSteps c (n + 1)) a d
@@ -129,7 +134,8 @@ steps_more l path c n a b d two r s =
     (λ t h k. ⊎_elim (λ few. ⊎_elim (λ e. inl e) (λ w. inr (w.0, omega (arith, w.1), w.2)) few) (λ m. inr (n, omega arith, m)) k)
     (rewrites_then l path (IsOfSteps c n) (IsOfMove c n) a b d two (λ t k. steps_undecided c n t k) (λ t k. move_is_undecided c n t k) r s)
 
-carrier_back : (l : LineData) (path : List Decision) (c : ℕ) (t : Constraint) → 2 ≤ length l.stages → IsConstraint l path t → IsOfCarrier c t
+carrier_back : (l : LineData) (path : List Decision) (c : ℕ) (t : Constraint) → 2 ≤ length l.stages
+    → IsConstraint l path t → IsOfCarrier c t
     → IsOfSteps c (last_stage l) t
 carrier_back l path c (Min a b) two h e = inr (b - 1, omega (arith, h.1, h.2, two), (e, omega (arith, h.1)))
 carrier_back l path c (Max a b) two h e = inr (b - 1, omega (arith, h.1, h.2, two), (e, omega (arith, h.1)))
@@ -146,7 +152,8 @@ move_carrier c k (Visit a b) h = h.0
 move_carrier c k (Repeat a b) h = h.0
 move_carrier c k (Decided i) h = absurd h
 
-pub carrier_written : (l : LineData) (path : List Decision) (c n : ℕ) (a b : SystemData) → 2 ≤ length l.stages → n ≡ last_stage l
+pub carrier_written : (l : LineData) (path : List Decision) (c n : ℕ) (a b : SystemData) → 2 ≤ length l.stages
+    → n ≡ last_stage l
     → Rewrites l path (IsOfSteps c n) a b → Rewrites l path (IsOfCarrier c) a b
 carrier_written l path c n a b two all r =
     let P : ℕ → Type 0 = λ m. Rewrites l path (IsOfSteps c m) a b in
@@ -168,7 +175,8 @@ carrier_undecided c (Decided i) h = absurd h
 pub carriers_none : (l : LineData) (path : List Decision) (a : SystemData) → Rewrites l path (IsOfCarriers 0) a a
 carriers_none l path a = record { nodes = refl; count = refl; changed = λ t h w. absurd (omega (arith, w.1)); others = λ j. inl refl }
 
-pub carriers_more : (l : LineData) (path : List Decision) (n : ℕ) (a b d : SystemData) → 2 ≤ length l.stages → Rewrites l path (IsOfCarriers n) a b
+pub carriers_more : (l : LineData) (path : List Decision) (n : ℕ) (a b d : SystemData) → 2 ≤ length l.stages
+    → Rewrites l path (IsOfCarriers n) a b
     → Rewrites l path (IsOfCarrier n) b d → Rewrites l path (IsOfCarriers (n + 1)) a d
 carriers_more l path n a b d two r s =
     rewrites_as l path (λ t. IsOfCarriers n t ⊎ IsOfCarrier n t) (IsOfCarriers (n + 1)) a d
@@ -177,7 +185,8 @@ carriers_more l path n a b d two r s =
     (λ t h k. ⊎_elim (λ w. (w.0, omega (arith, w.1), w.2)) (λ m. (n, omega arith, m)) k)
     (rewrites_then l path (IsOfCarriers n) (IsOfCarrier n) a b d two (λ t w. carrier_undecided w.0 t w.2) (λ t k. carrier_undecided n t k) r s)
 
-has_carrier : (l : LineData) (path : List Decision) (t : Constraint) → IsUndecided t → IsConstraint l path t → IsOfCarriers l.degree t
+has_carrier : (l : LineData) (path : List Decision) (t : Constraint) → IsUndecided t → IsConstraint l path t
+    → IsOfCarriers l.degree t
 has_carrier l path (Min a b) u h = (a, h.0, refl)
 has_carrier l path (Max a b) u h = (a, h.0, refl)
 has_carrier l path (Entry a) u h = (a, h, refl)
@@ -194,7 +203,8 @@ no_decision_named l (Repeat c k) h = tt
 no_decision_named l (Decided i) h = absurd (omega (arith, h.0))
 
 -- a system in which every carrier's constraints are written is the base system
-pub base_is : (l : LineData) (n : ℕ) (a b : SystemData) → HasPlaces l a → length a.arcs ≡ undecided_count l → n ≡ l.degree → Rewrites l [] (IsOfCarriers n) a b
+pub base_is : (l : LineData) (n : ℕ) (a b : SystemData) → HasPlaces l a → length a.arcs ≡ undecided_count l
+    → n ≡ l.degree → Rewrites l [] (IsOfCarriers n) a b
     → b ≡ system_below l []
 base_is l n a b places count all r =
     let names : constraint_list l [] ≡ undecided_list l = append-nil (undecided_list l) in
@@ -215,7 +225,8 @@ base_is l n a b places count all r =
 
 -- ---- visits with a choice
 
-pub inner_visit : (l : LineData) (c k : ℕ) → IsLine l → IsVisit l c k → 2 ≤ length (stage l k).tanks → (1 ≤ k) × (k ≤ last_step l)
+pub inner_visit : (l : LineData) (c k : ℕ) → IsLine l → IsVisit l c k → 2 ≤ length (stage l k).tanks
+    → (1 ≤ k) × (k ≤ last_step l)
 inner_visit l c k line visit several =
     let not_first : k ≡ 0 → ⊥ = λ e. let P : ℕ → Type 0 = λ j. 2 ≤ length (stage l j).tanks in omega (arith, line.times.first.one_tank, subst P e several) in
     let not_last : k ≡ last_stage l → ⊥ = λ e. let P : ℕ → Type 0 = λ j. 2 ≤ length (stage l j).tanks in omega

@@ -26,7 +26,8 @@ both false b e = cc
 
 -- ---- visits
 
-pub choice-append : (ds es : List Decision) (c k : ℕ) → choice_of (ds ++ es) c k ≡ option_or (choice_of ds c k) (choice_of es c k)
+pub choice-append : (ds es : List Decision) (c k : ℕ)
+    → choice_of (ds ++ es) c k ≡ option_or (choice_of ds c k) (choice_of es c k)
 choice-append [] es c k = refl
 choice-append (d ∷ ds) es c k =
     ap (λ (o : Option ℕ). option_or (choice_by c k d.question d.child) o) (choice-append ds es c k)
@@ -37,7 +38,8 @@ or_first None b n e = cc
 or_first (Some x) b n e = e
 
 -- a choice stays
-pub choice_stays : (path : List Decision) (i c k n : ℕ) → choice_of (take i path) c k ≡ Some n → choice_of path c k ≡ Some n
+pub choice_stays : (path : List Decision) (i c k n : ℕ) → choice_of (take i path) c k ≡ Some n
+    → choice_of path c k ≡ Some n
 choice_stays path i c k n e =
     let P : List Decision → Type 0 = λ ds. choice_of ds c k ≡ Some n in
     let whole : choice_of (take i path ++ drop i path) c k ≡ Some n =
@@ -94,14 +96,16 @@ chosen (d ∷ ds) c k n e =
 
 -- ---- moves
 
-pub assigned-append : (ds es : List Decision) (c k : ℕ) → assigned_of (ds ++ es) c k ≡ option_or (assigned_of ds c k) (assigned_of es c k)
+pub assigned-append : (ds es : List Decision) (c k : ℕ)
+    → assigned_of (ds ++ es) c k ≡ option_or (assigned_of ds c k) (assigned_of es c k)
 assigned-append [] es c k = refl
 assigned-append (d ∷ ds) es c k =
     ap (λ (o : Option ℕ). option_or (assigned_by c k d.question d.child) o) (assigned-append ds es c k)
     ∙ sym (or_or (assigned_by c k d.question d.child) (assigned_of ds c k) (assigned_of es c k))
 
 -- an assigned hoist stays
-pub assigned_stays : (path : List Decision) (i c k n : ℕ) → assigned_of (take i path) c k ≡ Some n → assigned_of path c k ≡ Some n
+pub assigned_stays : (path : List Decision) (i c k n : ℕ) → assigned_of (take i path) c k ≡ Some n
+    → assigned_of path c k ≡ Some n
 assigned_stays path i c k n e =
     let P : List Decision → Type 0 = λ ds. assigned_of ds c k ≡ Some n in
     let whole : assigned_of (take i path ++ drop i path) c k ≡ Some n =

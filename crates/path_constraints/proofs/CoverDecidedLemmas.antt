@@ -31,12 +31,14 @@ some_is (Some x) h = (x, refl)
 
 -- ---- what stands on a part of the path stands on the whole
 
-pub begin_stays : (l : LineData) (path : List Decision) (i c k : ℕ) → FitsPath l path → HasBegin l (take i path) c k → HasBegin l path c k
+pub begin_stays : (l : LineData) (path : List Decision) (i c k : ℕ) → FitsPath l path → HasBegin l (take i path) c k
+    → HasBegin l path c k
 begin_stays l path i c k fits has = λ lt.
     let s = some_is (tank_below l (take i path) c (k - 1)) (has lt) in
     ap (λ (o : Option ℕ). is_some o) (tank_stays l path i c (k - 1) s.0 fits s.1)
 
-pub share_stays : (l : LineData) (path : List Decision) (i : ℕ) (a b : VisitId) → FitsPath l path → ShareTank l (take i path) a b → ShareTank l path a b
+pub share_stays : (l : LineData) (path : List Decision) (i : ℕ) (a b : VisitId) → FitsPath l path
+    → ShareTank l (take i path) a b → ShareTank l path a b
 share_stays l path i a b fits s =
     record {
       first = s.first;
@@ -51,7 +53,8 @@ share_stays l path i a b fits s =
 
 -- ---- holds that are settled
 
-low_before : (l : LineData) (path : List Decision) (p : Timetable) (c k t : ℕ) → IsLegal l p → MeetsPath l p path → IsVisit l c k → 0 < k
+low_before : (l : LineData) (path : List Decision) (p : Timetable) (c k t : ℕ) → IsLegal l p → MeetsPath l p path
+    → IsVisit l c k → 0 < k
     → tank_below l path c k ≡ Some t → HasBegin l path c k → low l path c (k - 1) ≡ durations_of l p c (k - 1)
 low_before l path p c k t legal meets visit lt e has =
     let s = some_is (tank_below l path c (k - 1)) (has lt) in
@@ -59,8 +62,10 @@ low_before l path p c k t legal meets visit lt e has =
     let P : ℕ → Type 0 = λ j. tank_below l path c j ≡ Some t in
     low_settled l path p c (k - 1) s.0 t legal meets (visit.0, omega (arith, visit.1, lt)) s.1 (subst P back e)
 
-pub begin_settled : (l : LineData) (path : List Decision) (p : Timetable) (c k t : ℕ) → IsLegal l p → MeetsPath l p path → IsVisit l c k
-    → tank_below l path c k ≡ Some t → HasBegin l path c k → begin_of l (low l path) c k ≡ begin_of l (durations_of l p) c k
+pub begin_settled : (l : LineData) (path : List Decision) (p : Timetable) (c k t : ℕ) → IsLegal l p → MeetsPath l p path
+    → IsVisit l c k
+    → tank_below l path c k ≡ Some t → HasBegin l path c k
+    → begin_of l (low l path) c k ≡ begin_of l (durations_of l p) c k
 begin_settled l path p c k t legal meets visit e has =
     ⊎_elim
     (λ lt.
@@ -70,7 +75,8 @@ begin_settled l path p c k t legal meets visit e has =
     (λ le. let first : k ≡ 0 = omega (arith, le) in begin_first l (low l path) c k first ∙ sym (begin_first l (durations_of l p) c k first))
     (cases_lt 0 k)
 
-pub end_settled : (l : LineData) (path : List Decision) (p : Timetable) (c k t : ℕ) → IsLine l → IsLegal l p → MeetsPath l p path → IsVisit l c k
+pub end_settled : (l : LineData) (path : List Decision) (p : Timetable) (c k t : ℕ) → IsLine l → IsLegal l p
+    → MeetsPath l p path → IsVisit l c k
     → tank_below l path c k ≡ Some t → HasBegin l path c k → end_of l (low l path) c k ≡ end_of l (durations_of l p) c k
 end_settled l path p c k t line legal meets visit e has =
     ⊎_elim
@@ -88,11 +94,13 @@ end_settled l path p c k t line legal meets visit e has =
 -- ---- orders of visits
 
 -- moment y, q periods later, is not before moment x
-keeps_moment : (l : LineData) (t : ℕ → ℤ) (period : ℕ) (x y : Moment) (q : ℤ) → tick_of l t x ≤ℤ periods_later (tick_of l t y) q period
+keeps_moment : (l : LineData) (t : ℕ → ℤ) (period : ℕ) (x y : Moment) (q : ℤ)
+    → tick_of l t x ≤ℤ periods_later (tick_of l t y) q period
     → Keeps t period (moment_arc l x y q)
 keeps_moment l t period x y q h = before (t (node_of l x)) x.fixed (t (node_of l y)) y.fixed (q *ℤ pos period) (neg_ℤ q *ℤ pos period) (times_back q period) h
   where
-    before : (s f s' f' ahead back : ℤ) → back ≡ neg_ℤ ahead → (s +ℤ f) ≤ℤ ((s' +ℤ f') +ℤ ahead) → (s +ℤ ((f -ℤ f') +ℤ back)) ≤ℤ s'
+    before : (s f s' f' ahead back : ℤ) → back ≡ neg_ℤ ahead → (s +ℤ f) ≤ℤ ((s' +ℤ f') +ℤ ahead)
+        → (s +ℤ ((f -ℤ f') +ℤ back)) ≤ℤ s'
     before s f s' f' ahead back e h = omega (arith, ints)
 
 keeps_moments : (l : LineData) (t : ℕ → ℤ) (period : ℕ) (x x' y y' : Moment) (q : ℤ) → x ≡ x' → y ≡ y'
@@ -102,7 +110,8 @@ keeps_moments l t period x x' y y' q e f h =
     let L : Moment → Type 0 = λ z. Keeps t period (moment_arc l x' z q) in
     subst K (sym e) (subst L (sym f) (keeps_moment l t period x' y' q h))
 
-tank_keeps : (l : LineData) (path : List Decision) (p : Timetable) (a b : VisitId) (q : ℤ) (child : ℕ) → IsLine l → IsLegal l p → MeetsPath l p path
+tank_keeps : (l : LineData) (path : List Decision) (p : Timetable) (a b : VisitId) (q : ℤ) (child : ℕ) → IsLine l
+    → IsLegal l p → MeetsPath l p path
     → ShareTank l path a b → MeetsTankOrder l p a b q child
     → Keeps (ticks_of l p) p.period (tank_arc l path a b q child)
 tank_keeps l path p a b q zero line legal meets s h =
@@ -124,7 +133,8 @@ tank_keeps l path p a b q (suc (suc child)) line legal meets s h = absurd h
 
 -- ---- orders of moves
 
-span_keeps : (l : LineData) (t : ℕ → ℤ) (period : ℕ) (a b : MoveId) (q : ℤ) (child : ℕ) (span : Span) → MeetsSpan span (offset_of l t period a b q) child
+span_keeps : (l : LineData) (t : ℕ → ℤ) (period : ℕ) (a b : MoveId) (q : ℤ) (child : ℕ) (span : Span)
+    → MeetsSpan span (offset_of l t period a b q) child
     → Keeps t period (span_arc l a b q child (Some span))
 span_keeps l t period a b q zero span h =
     after (t (move_number l a.carrier a.step)) (t (move_number l b.carrier b.step)) span.after (q *ℤ pos period) (neg_ℤ q *ℤ pos period) (times_back q period) h
@@ -138,9 +148,11 @@ span_keeps l t period a b q (suc zero) span h =
     before s s' w ahead h = omega (arith, ints)
 span_keeps l t period a b q (suc (suc child)) span h = absurd h
 
-hoist_keeps : (l : LineData) (path : List Decision) (p : Timetable) (a b : MoveId) (q : ℤ) (child : ℕ) (span : Span) → IsLegal l p → MeetsPath l p path
+hoist_keeps : (l : LineData) (path : List Decision) (p : Timetable) (a b : MoveId) (q : ℤ) (child : ℕ) (span : Span)
+    → IsLegal l p → MeetsPath l p path
     → IsMove l a.carrier a.step → IsMove l b.carrier b.step
-    → clash_below l path a b ≡ Some span → MeetsHoistOrder l p a b q child → Keeps (ticks_of l p) p.period (span_arc l a b q child (clash_below l path a b))
+    → clash_below l path a b ≡ Some span → MeetsHoistOrder l p a b q child
+    → Keeps (ticks_of l p) p.period (span_arc l a b q child (clash_below l path a b))
 hoist_keeps l path p a b q child span legal meets move move' e h =
     let M : Option Span → Type 0 = λ o. IsSomeAnd o (λ s. MeetsSpan s (offset_of l (ticks_of l p) p.period a b q) child) in
     let K : Option Span → Type 0 = λ o. Keeps (ticks_of l p) p.period (span_arc l a b q child o) in
@@ -148,7 +160,8 @@ hoist_keeps l path p a b q child span legal meets move move' e h =
 
 -- ---- both
 
-decided_by : (l : LineData) (path : List Decision) (p : Timetable) (i : ℕ) (question : Question) (child : ℕ) → IsLine l → FitsPath l path → IsLegal l p
+decided_by : (l : LineData) (path : List Decision) (p : Timetable) (i : ℕ) (question : Question) (child : ℕ) → IsLine l
+    → FitsPath l path → IsLegal l p
     → MeetsPath l p path → IsOrder question → Stands l (take i path) question → Meets l p question child
     → Keeps (ticks_of l p) p.period (decided_arc l path question child)
 decided_by l path p i (Assign m) child line fits legal meets order s h = absurd order
@@ -159,7 +172,8 @@ decided_by l path p i (HoistOrder a b q) child line fits legal meets order s h =
     hoist_keeps l path p a b q child span.0 legal meets s.first s.second (clash_stays l path i a b span.0 fits span.1) h
 decided_by l path p i (Choose v) child line fits legal meets order s h = absurd order
 
-pub decided_row : (l : LineData) (path : List Decision) (p : Timetable) (i : ℕ) → IsLine l → FitsPath l path → IsLegal l p → MeetsPath l p path
+pub decided_row : (l : LineData) (path : List Decision) (p : Timetable) (i : ℕ) → IsLine l → FitsPath l path
+    → IsLegal l p → MeetsPath l p path
     → i < length path → IsOrder (decision_at path i).question
     → Keeps (ticks_of l p) p.period (decided_arc l path (decision_at path i).question (decision_at path i).child)
 decided_row l path p i line fits legal meets lt order =

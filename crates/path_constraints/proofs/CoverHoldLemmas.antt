@@ -1,4 +1,5 @@
--- The holds of a legal timetable: when they begin and end by the ticks of its moves, and that one tank's come one after another.
+-- The holds of a legal timetable: when they begin and end by the ticks of its moves, and that one tank's come one after
+-- another.
 use Rattle.std.proofs.Common.{⊎_elim, inl, inr, ◌⊎◌, ◌≡◌, ℕ, ◌+◌, ◌-◌, ◌*◌, ◌/◌, length, ◌%◌, ◌<◌, ◌≤◌, max, Bool, true, false, refl, sym, ◌∙◌, ap, subst, ℤ, pos, ◌+ℤ◌, ◌-ℤ◌, ◌*ℤ◌, neg_ℤ, ◌<ℤ◌, ◌≤ℤ◌, arith, ◌==◌, if◌then◌else◌}
 use Rattle.std.proofs.lemmas.Bool.{cases_lt, eq-eqb, ne_eqb}
 use Rattle.std.proofs.lemmas.Int.{ints, by_lt_z}
@@ -13,7 +14,8 @@ use Rattle.path_constraints.specs.Meets.{ticks_of, durations_of}
 use Rattle.path_constraints.proofs.CoverTrackLemmas.{shifts}
 
 -- the tick at the number of a move is its start
-pub tick_is : (l : LineData) (p : Timetable) (c k : ℕ) → k < last_stage l → ticks_of l p (move_number l c k) ≡ pos (p.start c k)
+pub tick_is : (l : LineData) (p : Timetable) (c k : ℕ) → k < last_stage l
+    → ticks_of l p (move_number l c k) ≡ pos (p.start c k)
 tick_is l p c k lt =
     let n : ℕ = last_stage l in
     let d : (c * n + k) / n ≡ c = div-mul-add c n k lt in
@@ -37,15 +39,18 @@ pub begin_first : (l : LineData) (d : ℕ → ℕ → ℕ) (c k : ℕ) → k ≡
 begin_first l d c k e =
     if_true (k == 0) (moment c 0 (neg_ℤ (pos l.load))) (moment c (k - 1) (pos (d c (k - 1)) -ℤ pos (stage l k).lower)) (eq-eqb k 0 e)
 
-pub begin_later : (l : LineData) (d : ℕ → ℕ → ℕ) (c k : ℕ) → 0 < k → begin_of l d c k ≡ moment c (k - 1) (pos (d c (k - 1)) -ℤ pos (stage l k).lower)
+pub begin_later : (l : LineData) (d : ℕ → ℕ → ℕ) (c k : ℕ) → 0 < k
+    → begin_of l d c k ≡ moment c (k - 1) (pos (d c (k - 1)) -ℤ pos (stage l k).lower)
 begin_later l d c k lt =
     if_false (k == 0) (moment c 0 (neg_ℤ (pos l.load))) (moment c (k - 1) (pos (d c (k - 1)) -ℤ pos (stage l k).lower)) (ne_eqb k 0 (λ e. omega (arith, e, lt)))
 
-pub end_last : (l : LineData) (d : ℕ → ℕ → ℕ) (c k : ℕ) → k ≡ last_stage l → end_of l d c k ≡ moment c (last_step l) (pos (d c (last_step l) + l.unload))
+pub end_last : (l : LineData) (d : ℕ → ℕ → ℕ) (c k : ℕ) → k ≡ last_stage l
+    → end_of l d c k ≡ moment c (last_step l) (pos (d c (last_step l) + l.unload))
 end_last l d c k e =
     if_true (k == last_stage l) (moment c (last_step l) (pos (d c (last_step l) + l.unload))) (moment c k (pos (stage l k).lift)) (eq-eqb k (last_stage l) e)
 
-pub end_earlier : (l : LineData) (d : ℕ → ℕ → ℕ) (c k : ℕ) → k < last_stage l → end_of l d c k ≡ moment c k (pos (stage l k).lift)
+pub end_earlier : (l : LineData) (d : ℕ → ℕ → ℕ) (c k : ℕ) → k < last_stage l
+    → end_of l d c k ≡ moment c k (pos (stage l k).lift)
 end_earlier l d c k lt =
     if_false (k == last_stage l) (moment c (last_step l) (pos (d c (last_step l) + l.unload))) (moment c k (pos (stage l k).lift))
     (ne_eqb k (last_stage l) (λ e. omega (arith, e, lt)))
@@ -65,14 +70,16 @@ length_of l p c k = duration (motion l p c k)
 pub data Begins (l : LineData) (p : Timetable) (c k : ℕ) : Type 0 where
   AtLoad : k ≡ 0 → hold_begin l p c k ≡ p.put c → begin_tick l p c k ≡ pos (p.start c 0) -ℤ pos l.load → Begins l p c k
   AfterMove : 0 < k → hold_begin l p c k ≡ p.start c (k - 1) + length_of l p c (k - 1) - (stage l k).lower
-      → begin_tick l p c k ≡ pos (p.start c (k - 1)) +ℤ (pos (length_of l p c (k - 1)) -ℤ pos (stage l k).lower) → Begins l p c k
+      → begin_tick l p c k ≡ pos (p.start c (k - 1)) +ℤ (pos (length_of l p c (k - 1)) -ℤ pos (stage l k).lower)
+      → Begins l p c k
 
 -- how it ends: by the lifting of its own move, or at the unload
 pub data Ends (l : LineData) (p : Timetable) (c k : ℕ) : Type 0 where
   ByMove : k < last_stage l → hold_end l p c k ≡ p.start c k + (stage l k).lift
       → end_tick l p c k ≡ pos (p.start c k) +ℤ pos (stage l k).lift → Ends l p c k
   AtUnload : k ≡ last_stage l → hold_end l p c k ≡ p.off c
-      → end_tick l p c k ≡ pos (p.start c (last_step l)) +ℤ pos (length_of l p c (last_step l) + l.unload) → Ends l p c k
+      → end_tick l p c k ≡ pos (p.start c (last_step l)) +ℤ pos (length_of l p c (last_step l) + l.unload)
+      → Ends l p c k
 
 pub begins : (l : LineData) (p : Timetable) (c k : ℕ) → IsLine l → IsVisit l c k → Begins l p c k
 begins l p c k line visit =
@@ -134,27 +141,33 @@ dwells l p c k legal lt move =
 from_load : (hb put load start : ℕ) (b : ℤ) → hb ≡ put → b ≡ pos start -ℤ pos load → put + load ≤ start → pos hb ≤ℤ b
 from_load hb put load start b e f h = omega (arith, ints)
 
-from_move : (hb start d lower : ℕ) (b : ℤ) → hb ≡ start + d - lower → b ≡ pos start +ℤ (pos d -ℤ pos lower) → lower ≤ d → pos hb ≤ℤ b
+from_move : (hb start d lower : ℕ) (b : ℤ) → hb ≡ start + d - lower → b ≡ pos start +ℤ (pos d -ℤ pos lower) → lower ≤ d
+    → pos hb ≤ℤ b
 from_move hb start d lower b e f h = omega (arith, ints)
 
 to_move : (he start lift : ℕ) (e : ℤ) → he ≡ start + lift → e ≡ pos start +ℤ pos lift → e ≤ℤ pos he
 to_move he start lift e f g = omega (arith, ints)
 
-to_unload : (he off start d unload : ℕ) (e : ℤ) → he ≡ off → e ≡ pos start +ℤ pos (d + unload) → start + d + unload ≤ off → e ≤ℤ pos he
+to_unload : (he off start d unload : ℕ) (e : ℤ) → he ≡ off → e ≡ pos start +ℤ pos (d + unload)
+    → start + d + unload ≤ off → e ≤ℤ pos he
 to_unload he off start d unload e f g h = omega (arith, ints)
 
-some_lifting : (start load lift start' : ℕ) (b e : ℤ) → b ≡ pos start -ℤ pos load → e ≡ pos start' +ℤ pos lift → start' ≡ start → 1 ≤ lift → b <ℤ e
+some_lifting : (start load lift start' : ℕ) (b e : ℤ) → b ≡ pos start -ℤ pos load → e ≡ pos start' +ℤ pos lift
+    → start' ≡ start → 1 ≤ lift → b <ℤ e
 some_lifting start load lift start' b e f g h lasts = omega (arith, ints)
 
-some_dwelling : (start d lower least start' lift : ℕ) (b e : ℤ) → b ≡ pos start +ℤ (pos d -ℤ pos lower) → e ≡ pos start' +ℤ pos lift
+some_dwelling : (start d lower least start' lift : ℕ) (b e : ℤ) → b ≡ pos start +ℤ (pos d -ℤ pos lower)
+    → e ≡ pos start' +ℤ pos lift
     → start + d + least ≤ start' → 1 ≤ lift → b <ℤ e
 some_dwelling start d lower least start' lift b e f g h lasts = omega (arith, ints)
 
-some_unloading : (start d lower start' d' unload : ℕ) (b e : ℤ) → b ≡ pos start +ℤ (pos d -ℤ pos lower) → e ≡ pos start' +ℤ pos (d' + unload) → start ≡ start'
+some_unloading : (start d lower start' d' unload : ℕ) (b e : ℤ) → b ≡ pos start +ℤ (pos d -ℤ pos lower)
+    → e ≡ pos start' +ℤ pos (d' + unload) → start ≡ start'
     → d ≡ d' → 1 ≤ lower → b <ℤ e
 some_unloading start d lower start' d' unload b e f g h i lasts = omega (arith, ints)
 
-spans_by : (l : LineData) (p : Timetable) (c k : ℕ) → IsLine l → IsLegal l p → IsVisit l c k → Begins l p c k → Ends l p c k → SpansTicks l p c k
+spans_by : (l : LineData) (p : Timetable) (c k : ℕ) → IsLine l → IsLegal l p → IsVisit l c k → Begins l p c k
+    → Ends l p c k → SpansTicks l p c k
 spans_by l p c k line legal visit (AtLoad zero_is hb b) (ByMove lt he e) =
     record {
       from = from_load (hold_begin l p c k) (p.put c) l.load (p.start c 0) (begin_tick l p c k) hb b (legal.windows.load c visit.0);
@@ -193,14 +206,17 @@ spans_ticks l p c k line legal visit = spans_by l p c k line legal visit (begins
 -- ---- one tank
 
 -- two stretches that meet share the later of their begins
-shared : (b e b' e' turns turns' : ℕ) (ahead : ℤ) → b < e → b' < e' → ahead +ℤ pos turns ≡ pos turns' → (pos b' +ℤ ahead) <ℤ pos e → pos b <ℤ (pos e' +ℤ ahead)
+shared : (b e b' e' turns turns' : ℕ) (ahead : ℤ) → b < e → b' < e' → ahead +ℤ pos turns ≡ pos turns'
+    → (pos b' +ℤ ahead) <ℤ pos e → pos b <ℤ (pos e' +ℤ ahead)
     → (max (b + turns) (b' + turns') < e + turns) × (max (b + turns) (b' + turns') < e' + turns')
 shared b e b' e' turns turns' ahead some some' is lt lt' = (omega (arith, ints), omega (arith, ints))
 
 -- of two different visits of one tank, the second q periods later, one ends before the other begins
-pub holds_apart : (l : LineData) (p : Timetable) (c k c' k' : ℕ) (q : ℤ) → IsLine l → IsLegal l p → IsVisit l c k → IsVisit l c' k' → p.tank c k ≡ p.tank c' k'
+pub holds_apart : (l : LineData) (p : Timetable) (c k c' k' : ℕ) (q : ℤ) → IsLine l → IsLegal l p → IsVisit l c k
+    → IsVisit l c' k' → p.tank c k ≡ p.tank c' k'
     → ((c ≡ c') × (k ≡ k') × (q ≡ pos 0) → ⊥)
-    → (pos (hold_end l p c k) ≤ℤ periods_later (pos (hold_begin l p c' k')) q p.period) ⊎ (periods_later (pos (hold_end l p c' k')) q p.period ≤ℤ pos (hold_begin l p c k))
+    → (pos (hold_end l p c k) ≤ℤ periods_later (pos (hold_begin l p c' k')) q p.period)
+    ⊎ (periods_later (pos (hold_end l p c' k')) q p.period ≤ℤ pos (hold_begin l p c k))
 holds_apart l p c k c' k' q line legal visit visit' same differ =
     let b = hold_begin l p c k in
     let e = hold_end l p c k in
@@ -228,7 +244,8 @@ holds_apart l p c k c' k' q line legal visit visit' same differ =
     none n m q e f = omega (arith, ints)
 
 -- the same by the ticks of moves
-pub ticks_apart : (l : LineData) (p : Timetable) (c k c' k' : ℕ) (q : ℤ) → IsLine l → IsLegal l p → IsVisit l c k → IsVisit l c' k' → p.tank c k ≡ p.tank c' k'
+pub ticks_apart : (l : LineData) (p : Timetable) (c k c' k' : ℕ) (q : ℤ) → IsLine l → IsLegal l p → IsVisit l c k
+    → IsVisit l c' k' → p.tank c k ≡ p.tank c' k'
     → ((c ≡ c') × (k ≡ k') × (q ≡ pos 0) → ⊥)
     → (end_tick l p c k ≤ℤ periods_later (begin_tick l p c' k') q p.period) ⊎ (periods_later (end_tick l p c' k') q p.period ≤ℤ begin_tick l p c k)
 ticks_apart l p c k c' k' q line legal visit visit' same differ =

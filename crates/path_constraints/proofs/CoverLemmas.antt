@@ -16,7 +16,8 @@ use Rattle.path_constraints.proofs.CoverRowLemmas.{min_row, max_row, entry_row, 
 use Rattle.path_constraints.proofs.CoverDecidedLemmas.{decided_row}
 use Rattle.path_constraints.proofs.CoverQuestionLemmas.{meets_child}
 
-keeps_all : (l : LineData) (path : List Decision) (p : Timetable) (t : Constraint) → IsLine l → FitsPath l path → IsLegal l p → MeetsPath l p path
+keeps_all : (l : LineData) (path : List Decision) (p : Timetable) (t : Constraint) → IsLine l → FitsPath l path
+    → IsLegal l p → MeetsPath l p path
     → IsConstraint l path t → Keeps (ticks_of l p) p.period (arc_of l path t)
 keeps_all l path p (Min c k) line fits legal meets is = min_row l path p c k line legal meets is.0 is.1 is.2
 keeps_all l path p (Max c k) line fits legal meets is = max_row l path p c k line legal meets is.0 is.1 is.2 is.3

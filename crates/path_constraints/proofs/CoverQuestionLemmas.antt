@@ -33,10 +33,12 @@ MeetsChild l path p question = (child : ℕ) × (child < child_count l path ques
 
 -- ---- choices
 
-meets_choose : (l : LineData) (path : List Decision) (p : Timetable) (v : VisitId) → IsLegal l p → IsOpenVisit l path v → MeetsChild l path p (Choose v)
+meets_choose : (l : LineData) (path : List Decision) (p : Timetable) (v : VisitId) → IsLegal l p → IsOpenVisit l path v
+    → MeetsChild l path p (Choose v)
 meets_choose l path p v legal open_visit = place_of (stage l v.stage).tanks (p.tank v.carrier v.stage) (legal.routed v.carrier v.stage open_visit.visit)
 
-meets_assign : (l : LineData) (path : List Decision) (p : Timetable) (m : MoveId) → IsLegal l p → MeetsPath l p path → IsOpenMove l path m
+meets_assign : (l : LineData) (path : List Decision) (p : Timetable) (m : MoveId) → IsLegal l p → MeetsPath l p path
+    → IsOpenMove l path m
     → MeetsChild l path p (Assign m)
 meets_assign l path p m legal meets open_move =
     let c = m.carrier in
@@ -53,7 +55,8 @@ meets_assign l path p m legal meets open_move =
 never_same : (c k c' k' : ℕ) → IsBefore c k c' k' → c ≡ c' → k ≡ k' → ⊥
 never_same c k c' k' before e f = ⊎_elim (λ lt. omega (arith, lt, e)) (λ s. omega (arith, s.1, f)) before
 
-meets_tank_order : (l : LineData) (path : List Decision) (p : Timetable) (a b : VisitId) (q : ℤ) → IsLine l → IsLegal l p → MeetsPath l p path
+meets_tank_order : (l : LineData) (path : List Decision) (p : Timetable) (a b : VisitId) (q : ℤ) → IsLine l
+    → IsLegal l p → MeetsPath l p path
     → ShareTank l path a b → MeetsChild l path p (TankOrder a b q)
 meets_tank_order l path p a b q line legal meets s =
     let same : p.tank a.carrier a.stage ≡ p.tank b.carrier b.stage =
@@ -66,7 +69,8 @@ meets_tank_order l path p a b q line legal meets s =
 -- ---- orders of moves
 
 -- the motion of a move is one that clashes speak of
-pub is_motion : (l : LineData) (p : Timetable) (c k : ℕ) → IsLine l → IsLegal l p → IsMove l c k → IsMotion (motion l p c k)
+pub is_motion : (l : LineData) (p : Timetable) (c k : ℕ) → IsLine l → IsLegal l p → IsMove l c k
+    → IsMotion (motion l p c k)
 is_motion l p c k line legal move =
     let from = line.tanks.on_track (p.tank c k) (line.stages.there k (p.tank c k) (legal.routed c k (visit_before l c k move))) in
     let to = line.tanks.on_track (p.tank c (k + 1)) (line.stages.there (k + 1) (p.tank c (k + 1)) (legal.routed c (k + 1) (visit_after l c k move))) in
@@ -74,9 +78,11 @@ is_motion l p c k line legal move =
     record { from = omega (arith, from, short); to = omega (arith, to, short); lift = line.times.lift k move.1; lower = line.times.lower k move.1 }
 
 -- the offset of two moves is not forbidden
-offset_allowed : (l : LineData) (p : Timetable) (a b : MoveId) (q : ℤ) → IsLine l → IsLegal l p → IsMove l a.carrier a.step → IsMove l b.carrier b.step
+offset_allowed : (l : LineData) (p : Timetable) (a b : MoveId) (q : ℤ) → IsLine l → IsLegal l p
+    → IsMove l a.carrier a.step → IsMove l b.carrier b.step
     → IsBefore a.carrier a.step b.carrier b.step
-    → IsForbidden l (motion l p a.carrier a.step) (p.hoist a.carrier a.step) (motion l p b.carrier b.step) (p.hoist b.carrier b.step) (offset_of l (ticks_of l p) p.period a b q)
+    → IsForbidden l (motion l p a.carrier a.step) (p.hoist a.carrier a.step) (motion l p b.carrier b.step)
+    (p.hoist b.carrier b.step) (offset_of l (ticks_of l p) p.period a b q)
     → ⊥
 offset_allowed l p a b q line legal move move' before bad =
     let s = shifts q p.period in
@@ -102,7 +108,8 @@ meets_span span o outside =
     (λ above. by_lt_z o span.after (λ below. absurd (outside (above, below))) (λ past. (zero, omega arith, past)))
     (λ early. (suc zero, omega arith, omega (arith, ints)))
 
-meets_hoist_order : (l : LineData) (path : List Decision) (p : Timetable) (a b : MoveId) (q : ℤ) → IsLine l → IsLegal l p → MeetsPath l p path
+meets_hoist_order : (l : LineData) (path : List Decision) (p : Timetable) (a b : MoveId) (q : ℤ) → IsLine l
+    → IsLegal l p → MeetsPath l p path
     → MayClash l path a b → MeetsChild l path p (HoistOrder a b q)
 meets_hoist_order l path p a b q line legal meets s =
     let c = some_is (clash_below l path a b) s.clash in
@@ -120,7 +127,8 @@ meets_hoist_order l path p a b q line legal meets s =
 
 -- ---- all
 
-pub meets_child : (l : LineData) (path : List Decision) (p : Timetable) (question : Question) → IsLine l → IsLegal l p → MeetsPath l p path
+pub meets_child : (l : LineData) (path : List Decision) (p : Timetable) (question : Question) → IsLine l → IsLegal l p
+    → MeetsPath l p path
     → Stands l path question → MeetsChild l path p question
 meets_child l path p (Assign m) line legal meets s = meets_assign l path p m legal meets s
 meets_child l path p (TankOrder a b q) line legal meets s = meets_tank_order l path p a b q line legal meets s

@@ -37,7 +37,8 @@ reaches_true l h at r =
     (le-leb (h * l.gap) at r.0) (le-leb (at + (l.hoists - 1 - h) * l.gap) l.track r.1)
 
 -- the hoist of a move is one of those that reach its motion
-pub hoist_open : (l : LineData) (p : Timetable) (c k : ℕ) → IsLegal l p → IsMove l c k → Contains (hoists_reaching l (motion l p c k)) (p.hoist c k)
+pub hoist_open : (l : LineData) (p : Timetable) (c k : ℕ) → IsLegal l p → IsMove l c k
+    → Contains (hoists_reaching l (motion l p c k)) (p.hoist c k)
 hoist_open l p c k legal move =
     let m = motion l p c k in
     let h = p.hoist c k in
@@ -46,7 +47,8 @@ hoist_open l p c k legal move =
     (both (reaches l h m.from) (reaches l h m.to) (reaches_true l h m.from r.0) (reaches_true l h m.to r.1))
 
 -- a hoist that the path assigns is the timetable's
-assigned_hoist : (l : LineData) (path : List Decision) (p : Timetable) (c k n : ℕ) → MeetsPath l p path → assigned_of path c k ≡ Some n
+assigned_hoist : (l : LineData) (path : List Decision) (p : Timetable) (c k n : ℕ) → MeetsPath l p path
+    → assigned_of path c k ≡ Some n
     → slice_get (hoists_reaching l (motion l p c k)) n ≡ Some (p.hoist c k)
 assigned_hoist l path p c k n meets e =
     let r = assigned path c k n e in
@@ -56,14 +58,16 @@ assigned_hoist l path p c k n meets e =
     let C : ℕ → Type 0 = λ j. slice_get (hoists_reaching l (motion l p j k)) n ≡ Some (p.hoist j k) in
     subst C r.carrier (subst B r.step (subst A r.child (subst Q r.question (meets r.place r.there))))
 
-hoist_by_is : (hs : List ℕ) (o : Option ℕ) (h x : ℕ) → hoist_by hs o ≡ Some h → Contains hs x → ((n : ℕ) → o ≡ Some n → slice_get hs n ≡ Some x) → x ≡ h
+hoist_by_is : (hs : List ℕ) (o : Option ℕ) (h x : ℕ) → hoist_by hs o ≡ Some h → Contains hs x
+    → ((n : ℕ) → o ≡ Some n → slice_get hs n ≡ Some x) → x ≡ h
 hoist_by_is [] o h x e c a = cc
 hoist_by_is (y ∷ []) o h x e c a = let s : y ≡ x = contains_only y x c in cc
 hoist_by_is (y ∷ z ∷ zs) None h x e c a = cc
 hoist_by_is (y ∷ z ∷ zs) (Some n) h x e c a = let s : slice_get (y ∷ z ∷ zs) n ≡ Some x = a n refl in cc
 
 -- a ride that the path settles is the timetable's
-pub ride_settled : (l : LineData) (path : List Decision) (p : Timetable) (c k : ℕ) (r : Ride) → IsLegal l p → MeetsPath l p path → IsMove l c k
+pub ride_settled : (l : LineData) (path : List Decision) (p : Timetable) (c k : ℕ) (r : Ride) → IsLegal l p
+    → MeetsPath l p path → IsMove l c k
     → ride_below l path c k ≡ Some r → r ≡ ride_of l p c k
 ride_settled l path p c k r legal meets move e =
     let s = settled_ride l path c k r e in
@@ -75,9 +79,11 @@ ride_settled l path p c k r legal meets move e =
     ap (λ (x : Motion). ride x r.hoist) m ∙ ap (λ (y : ℕ). ride (motion l p c k) y) (sym h)
 
 -- and so is a clash
-pub clash_settled : (l : LineData) (path : List Decision) (p : Timetable) (a b : MoveId) (span : Span) → IsLegal l p → MeetsPath l p path
+pub clash_settled : (l : LineData) (path : List Decision) (p : Timetable) (a b : MoveId) (span : Span) → IsLegal l p
+    → MeetsPath l p path
     → IsMove l a.carrier a.step → IsMove l b.carrier b.step
-    → clash_below l path a b ≡ Some span → clash_between l (ride_of l p a.carrier a.step) (ride_of l p b.carrier b.step) ≡ Some span
+    → clash_below l path a b ≡ Some span
+    → clash_between l (ride_of l p a.carrier a.step) (ride_of l p b.carrier b.step) ≡ Some span
 clash_settled l path p a b span legal meets move move' e =
     let s = settled_clash l path a b span e in
     let first : s.first ≡ ride_of l p a.carrier a.step = ride_settled l path p a.carrier a.step s.first legal meets move s.is_first in

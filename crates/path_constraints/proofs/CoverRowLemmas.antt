@@ -28,10 +28,12 @@ arc from to w q = record { from = from; to = to; w = w; q = q }
 less_one : (period : ℕ) → negsuc 0 *ℤ pos period ≡ neg_ℤ (pos period)
 less_one period = omega (arith, ints, times_back (pos 1) period)
 
-keeps_same : (t : ℕ → ℤ) (period from to : ℕ) (w s s' : ℤ) → t from ≡ s → t to ≡ s' → (s +ℤ w) ≤ℤ s' → Keeps t period (arc from to w (pos 0))
+keeps_same : (t : ℕ → ℤ) (period from to : ℕ) (w s s' : ℤ) → t from ≡ s → t to ≡ s' → (s +ℤ w) ≤ℤ s'
+    → Keeps t period (arc from to w (pos 0))
 keeps_same t period from to w s s' e f h = omega (arith, ints)
 
-keeps_next : (t : ℕ → ℤ) (period from to : ℕ) (w s s' : ℤ) → t from ≡ s → t to ≡ s' → (s +ℤ w) ≤ℤ (s' +ℤ pos period) → Keeps t period (arc from to w (negsuc 0))
+keeps_next : (t : ℕ → ℤ) (period from to : ℕ) (w s s' : ℤ) → t from ≡ s → t to ≡ s' → (s +ℤ w) ≤ℤ (s' +ℤ pos period)
+    → Keeps t period (arc from to w (negsuc 0))
 keeps_next t period from to w s s' e f h = omega (arith, ints, less_one period)
 
 is_move : (l : LineData) (c k : ℕ) → IsLine l → c < l.degree → k ≤ last_step l → IsMove l c k
@@ -42,7 +44,8 @@ move_before l c k line carrier from to = (carrier, omega (arith, from, to, line.
 
 -- ---- windows
 
-pub min_row : (l : LineData) (path : List Decision) (p : Timetable) (c k : ℕ) → IsLine l → IsLegal l p → MeetsPath l p path → c < l.degree → 1 ≤ k
+pub min_row : (l : LineData) (path : List Decision) (p : Timetable) (c k : ℕ) → IsLine l → IsLegal l p
+    → MeetsPath l p path → c < l.degree → 1 ≤ k
     → k ≤ last_step l → Keeps (ticks_of l p) p.period (min_arc l path c k)
 min_row l path p c k line legal meets carrier from to =
     let before = move_before l c k line carrier from (omega (arith, to)) in
@@ -60,7 +63,8 @@ some_bound : (o : Option ℕ) (a b : ℕ) → IsSome o → IfSome o (λ m. a ≤
 some_bound None a b some h = cc
 some_bound (Some m) a b some h = h
 
-pub max_row : (l : LineData) (path : List Decision) (p : Timetable) (c k : ℕ) → IsLine l → IsLegal l p → MeetsPath l p path → c < l.degree → 1 ≤ k
+pub max_row : (l : LineData) (path : List Decision) (p : Timetable) (c k : ℕ) → IsLine l → IsLegal l p
+    → MeetsPath l p path → c < l.degree → 1 ≤ k
     → k ≤ last_step l → IsSome (stage l k).max → Keeps (ticks_of l p) p.period (max_arc l path c k)
 max_row l path p c k line legal meets carrier from to some =
     let before = move_before l c k line carrier from (omega (arith, to)) in
@@ -88,7 +92,8 @@ only_one (a ∷ b ∷ xs) x y e c d = absurd (omega (arith, e))
 first_visit : (l : LineData) (c : ℕ) → IsLine l → c < l.degree → IsVisit l c 0
 first_visit l c line carrier = (carrier, omega (arith, line.limits.stages.0))
 
-one_load : (l : LineData) (p : Timetable) (c c' : ℕ) → IsLine l → IsLegal l p → c < l.degree → c' < l.degree → p.tank c 0 ≡ p.tank c' 0
+one_load : (l : LineData) (p : Timetable) (c c' : ℕ) → IsLine l → IsLegal l p → c < l.degree → c' < l.degree
+    → p.tank c 0 ≡ p.tank c' 0
 one_load l p c c' line legal carrier carrier' =
     only_one (stage l 0).tanks (p.tank c 0) (p.tank c' 0) line.times.first.one_tank
     (legal.routed c 0 (first_visit l c line carrier)) (legal.routed c' 0 (first_visit l c' line carrier'))
@@ -101,11 +106,13 @@ first_end l p c line = if_false (0 == last_stage l) (p.off c) (p.start c 0 + (st
     (ne_eqb 0 (last_stage l) (λ e. omega (arith, e, line.limits.stages.0)))
 
 -- the next carrier is put on when this one has been lifted
-enters : (put start lift load put' start' ahead : ℕ) → put < put' + ahead → put' + load ≤ start' → start + lift ≤ put' + ahead
+enters : (put start lift load put' start' ahead : ℕ) → put < put' + ahead → put' + load ≤ start'
+    → start + lift ≤ put' + ahead
     → start + (load + lift) ≤ start' + ahead
 enters put start lift load put' start' ahead order loaded apart = omega arith
 
-enters_not : (put put' start' lift load ahead : ℕ) → put < put' + ahead → put' + load ≤ start' → start' + lift + ahead ≤ put → ⊥
+enters_not : (put put' start' lift load ahead : ℕ) → put < put' + ahead → put' + load ≤ start'
+    → start' + lift + ahead ≤ put → ⊥
 enters_not put put' start' lift load ahead order loaded apart = omega arith
 
 pub entry_before : (l : LineData) (p : Timetable) (c : ℕ) → IsLine l → IsLegal l p → c + 1 < l.degree
@@ -159,7 +166,8 @@ entry_around l p c line legal last =
     began : (he hb e b period : ℕ) → he ≡ e → hb ≡ b → (pos he +ℤ pos 1 *ℤ pos period) ≤ℤ pos hb → e + period ≤ b
     began he hb e b period f g le = omega (arith, ints)
 
-pub entry_row : (l : LineData) (p : Timetable) (c : ℕ) → IsLine l → IsLegal l p → c < l.degree → Keeps (ticks_of l p) p.period (entry_arc l c)
+pub entry_row : (l : LineData) (p : Timetable) (c : ℕ) → IsLine l → IsLegal l p → c < l.degree
+    → Keeps (ticks_of l p) p.period (entry_arc l c)
 entry_row l p c line legal carrier =
     let stages : 2 ≤ length l.stages = line.limits.stages.0 in
     let w : ℤ = pos (l.load + (stage l 0).lift) in
@@ -184,7 +192,8 @@ entry_row l p c line legal carrier =
 -- ---- visit
 
 -- a visit has ended when the same visit of the next period begins
-pub visit_again : (l : LineData) (p : Timetable) (c k : ℕ) → IsLine l → IsLegal l p → IsVisit l c k → end_tick l p c k ≤ℤ (begin_tick l p c k +ℤ pos p.period)
+pub visit_again : (l : LineData) (p : Timetable) (c k : ℕ) → IsLine l → IsLegal l p → IsVisit l c k
+    → end_tick l p c k ≤ℤ (begin_tick l p c k +ℤ pos p.period)
 visit_again l p c k line legal visit =
     ⊎_elim
     (λ le. later_is (end_tick l p c k) (begin_tick l p c k) p.period le)
@@ -197,7 +206,8 @@ visit_again l p c k line legal visit =
     never : (e b : ℤ) (period : ℕ) → (e +ℤ pos 1 *ℤ pos period) ≤ℤ b → b <ℤ e → ⊥
     never e b period le lt = omega (arith, ints)
 
-visit_by : (l : LineData) (path : List Decision) (p : Timetable) (c k : ℕ) → IsLine l → IsLegal l p → MeetsPath l p path → c < l.degree → 1 ≤ k
+visit_by : (l : LineData) (path : List Decision) (p : Timetable) (c k : ℕ) → IsLine l → IsLegal l p → MeetsPath l p path
+    → c < l.degree → 1 ≤ k
     → k ≤ last_stage l → Begins l p c k → Ends l p c k
     → end_tick l p c k ≤ℤ (begin_tick l p c k +ℤ pos p.period) → Keeps (ticks_of l p) p.period (visit_arc l path c k)
 visit_by l path p c k line legal meets carrier from to (AtLoad zero_is hb b) last again = absurd (omega (arith, from, zero_is))
@@ -213,7 +223,8 @@ visit_by l path p c k line legal meets carrier from to (AfterMove later hb b) (B
     (left (end_tick l p c k) (begin_tick l p c k) (p.start c k) (stage l k).lift (p.start c (k - 1)) (length_of l p c (k - 1)) (stage l k).lower
     (high l path c (k - 1)) p.period e b again (high_greatest l path p c (k - 1) legal meets before)))
   where
-    left : (e b : ℤ) (start lift start' d lower hi period : ℕ) → e ≡ pos start +ℤ pos lift → b ≡ pos start' +ℤ (pos d -ℤ pos lower) → e ≤ℤ (b +ℤ pos period)
+    left : (e b : ℤ) (start lift start' d lower hi period : ℕ) → e ≡ pos start +ℤ pos lift
+        → b ≡ pos start' +ℤ (pos d -ℤ pos lower) → e ≤ℤ (b +ℤ pos period)
         → d ≤ hi
         → (pos start +ℤ (pos (lift + lower) -ℤ pos hi)) ≤ℤ (pos start' +ℤ pos period)
     left e b start lift start' d lower hi period f g h le = omega (arith, ints)
@@ -233,12 +244,14 @@ visit_by l path p c k line legal meets carrier from to (AfterMove later hb b) (A
     (length_of l p c (last_step l)) l.unload p.period b e
     (ap (λ (j : ℕ). p.start c j) before) (ap (λ (j : ℕ). length_of l p c j) before) again))
   where
-    cleared : (e b : ℤ) (start d lower start' d' unload period : ℕ) → b ≡ pos start +ℤ (pos d -ℤ pos lower) → e ≡ pos start' +ℤ pos (d' + unload)
+    cleared : (e b : ℤ) (start d lower start' d' unload period : ℕ) → b ≡ pos start +ℤ (pos d -ℤ pos lower)
+        → e ≡ pos start' +ℤ pos (d' + unload)
         → start ≡ start' → d ≡ d' → e ≤ℤ (b +ℤ pos period)
         → (pos start' +ℤ pos (lower + unload)) ≤ℤ (pos start' +ℤ pos period)
     cleared e b start d lower start' d' unload period f g h i le = omega (arith, ints)
 
-pub visit_row : (l : LineData) (path : List Decision) (p : Timetable) (c k : ℕ) → IsLine l → IsLegal l p → MeetsPath l p path → c < l.degree → 1 ≤ k
+pub visit_row : (l : LineData) (path : List Decision) (p : Timetable) (c k : ℕ) → IsLine l → IsLegal l p
+    → MeetsPath l p path → c < l.degree → 1 ≤ k
     → k ≤ last_stage l → Keeps (ticks_of l p) p.period (visit_arc l path c k)
 visit_row l path p c k line legal meets carrier from to =
     let visit : IsVisit l c k = (carrier, omega (arith, to, line.limits.stages.0)) in
@@ -247,7 +260,8 @@ visit_row l path p c k line legal meets carrier from to =
 -- ---- repeat
 
 -- the hoist of a move is back at its start a period later
-pub back_in_time : (l : LineData) (p : Timetable) (c k : ℕ) → IsLine l → IsLegal l p → IsMove l c k → there_and_back (motion l p c k) ≤ p.period
+pub back_in_time : (l : LineData) (p : Timetable) (c k : ℕ) → IsLine l → IsLegal l p → IsMove l c k
+    → there_and_back (motion l p c k) ≤ p.period
 back_in_time l p c k line legal move =
     let s : ℕ = p.start c k in
     let m = motion l p c k in
@@ -269,10 +283,12 @@ back_in_time l p c k line legal move =
     returns (position p h (later p 0 s + d)) (position p h (later p 1 s + 0)) m.to m.from d p.period a b far far' enough)
     (cases_lt p.period d)
   where
-    returns : (x y to from d period : ℕ) → x ≡ to → y ≡ from → x ≤ y + (period - d) → y ≤ x + (period - d) → d ≤ period → d + abs_diff to from ≤ period
+    returns : (x y to from d period : ℕ) → x ≡ to → y ≡ from → x ≤ y + (period - d) → y ≤ x + (period - d) → d ≤ period
+        → d + abs_diff to from ≤ period
     returns x y to from d period e f far far' enough = omega arith
 
-pub repeat_row : (l : LineData) (path : List Decision) (p : Timetable) (c k : ℕ) → IsLine l → IsLegal l p → MeetsPath l p path → c < l.degree → k ≤ last_step l
+pub repeat_row : (l : LineData) (path : List Decision) (p : Timetable) (c k : ℕ) → IsLine l → IsLegal l p
+    → MeetsPath l p path → c < l.degree → k ≤ last_step l
     → Keeps (ticks_of l p) p.period (repeat_arc l path c k)
 repeat_row l path p c k line legal meets carrier to =
     let move = is_move l c k line carrier to in

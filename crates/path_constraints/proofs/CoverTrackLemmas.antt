@@ -1,4 +1,5 @@
--- Where the hoists of a legal timetable are: how far they get, how far they are apart, and that none comes at a forbidden offset.
+-- Where the hoists of a legal timetable are: how far they get, how far they are apart, and that none comes at a
+-- forbidden offset.
 use Rattle.std.proofs.Common.{⊎_elim, ◌≡◌, ℕ, zero, suc, ◌+◌, ◌-◌, ◌*◌, ◌<◌, ◌≤◌, refl, sym, ◌∙◌, ap, subst, ℤ, pos, ◌+ℤ◌, ◌-ℤ◌, ◌*ℤ◌, neg_ℤ, arith}
 use Rattle.std.specs.Prelude.{unsigned_abs}
 use Rattle.std.proofs.lemmas.Bool.{cases_lt}
@@ -64,7 +65,8 @@ drift l p h t (suc n) track there =
     (omega (arith, e, before.0, up), omega (arith, e, before.1, down))
 
 -- between two ticks that are at most w apart
-pub speed : (l : LineData) (p : Timetable) (h s t w : ℕ) → IsTrack l p → h < l.hoists → s ≤ t + w → t ≤ s + w → position p h s ≤ position p h t + w
+pub speed : (l : LineData) (p : Timetable) (h s t w : ℕ) → IsTrack l p → h < l.hoists → s ≤ t + w → t ≤ s + w
+    → position p h s ≤ position p h t + w
 speed l p h s t w track there le ge =
     ⊎_elim
     (λ lt.
@@ -76,7 +78,8 @@ speed l p h s t w track there le ge =
     (cases_lt s t)
 
 -- n hoists further up
-stacked : (l : LineData) (p : Timetable) (h n t : ℕ) → IsTrack l p → h + n < l.hoists → position p h t + n * l.gap ≤ position p (h + n) t
+stacked : (l : LineData) (p : Timetable) (h n t : ℕ) → IsTrack l p → h + n < l.hoists
+    → position p h t + n * l.gap ≤ position p (h + n) t
 stacked l p h zero t track there =
     let e : position p (h + 0) t ≡ position p h t = ap (λ g. position p g t) (omega arith) in
     omega (arith, e)
@@ -104,7 +107,8 @@ on_move l p c k z u legal m le =
     e ∙ position_later p (p.hoist c k) (p.start c k + u) z ∙ legal.carried.along c k u m le
 
 -- each hoist reaches its moves
-pub reaches_moves : (l : LineData) (p : Timetable) (c k : ℕ) → IsLegal l p → IsMove l c k → ReachesMotion l (p.hoist c k) (motion l p c k)
+pub reaches_moves : (l : LineData) (p : Timetable) (c k : ℕ) → IsLegal l p → IsMove l c k
+    → ReachesMotion l (p.hoist c k) (motion l p c k)
 reaches_moves l p c k legal move =
     let h = p.hoist c k in
     let m = motion l p c k in
@@ -119,8 +123,10 @@ abbrev pub AreDifferent : ℕ → ℕ → ℕ → ℕ → ℕ → ℕ → Type 0
 AreDifferent c k z c' k' z' = (c ≡ c') × (k ≡ k') × (z ≡ z') → ⊥
 
 -- the upper of two hoists is never too near
-never_near : (l : LineData) (p : Timetable) (c k z c' k' z' : ℕ) → IsLegal l p → IsMove l c k → IsMove l c' k' → p.hoist c k < p.hoist c' k'
-    → ComeTooNear (motion l p c k) (motion l p c' k') ((p.hoist c' k' - p.hoist c k) * l.gap) (pos (later p z' (p.start c' k')) -ℤ pos (later p z (p.start c k)))
+never_near : (l : LineData) (p : Timetable) (c k z c' k' z' : ℕ) → IsLegal l p → IsMove l c k → IsMove l c' k'
+    → p.hoist c k < p.hoist c' k'
+    → ComeTooNear (motion l p c k) (motion l p c' k') ((p.hoist c' k' - p.hoist c k) * l.gap)
+    (pos (later p z' (p.start c' k')) -ℤ pos (later p z (p.start c k)))
     → ⊥
 never_near l p c k z c' k' z' legal m m' lt (u, v, p1, p2, near) =
     let h = p.hoist c k in
@@ -142,9 +148,11 @@ never_near l p c k z c' k' z' legal m m' lt (u, v, p1, p2, near) =
     nearer x y y' a b z w room e f far g over near = omega arith
 
 -- one hoist does different moves one after another
-never_at_once : (l : LineData) (p : Timetable) (c k z c' k' z' : ℕ) → IsLegal l p → IsMove l c k → IsMove l c' k' → p.hoist c k ≡ p.hoist c' k'
+never_at_once : (l : LineData) (p : Timetable) (c k z c' k' z' : ℕ) → IsLegal l p → IsMove l c k → IsMove l c' k'
+    → p.hoist c k ≡ p.hoist c' k'
     → AreDifferent c k z c' k' z'
-    → AreAtOnce (motion l p c k) (motion l p c' k') (pos (later p z' (p.start c' k')) -ℤ pos (later p z (p.start c k))) → ⊥
+    → AreAtOnce (motion l p c k) (motion l p c' k') (pos (later p z' (p.start c' k')) -ℤ pos (later p z (p.start c k)))
+    → ⊥
 never_at_once l p c k z c' k' z' legal m m' same differ once =
     ⊎_elim
     (λ (u, v, p1, p2, meet).
@@ -170,15 +178,18 @@ never_at_once l p c k z c' k' z' legal m m' same differ once =
     slower : (x y a b w : ℕ) → x ≡ a → y ≡ b → x ≤ y + w → y ≤ x + w → w < abs_diff a b → ⊥
     slower x y a b w e f far far' slow = omega arith
 
-turned_difference : (a b : Motion) (room x y : ℕ) → ComeTooNear b a room (neg_ℤ (pos x -ℤ pos y)) → ComeTooNear b a room (pos y -ℤ pos x)
+turned_difference : (a b : Motion) (room x y : ℕ) → ComeTooNear b a room (neg_ℤ (pos x -ℤ pos y))
+    → ComeTooNear b a room (pos y -ℤ pos x)
 turned_difference a b room x y h =
     let e : neg_ℤ (pos x -ℤ pos y) ≡ pos y -ℤ pos x = omega (arith, ints) in
     let P : ℤ → Type 0 = λ o. ComeTooNear b a room o in
     subst P e h
 
 -- no two different moves start at a forbidden offset
-pub none_forbidden : (l : LineData) (p : Timetable) (c k z c' k' z' : ℕ) → IsLegal l p → IsMove l c k → IsMove l c' k' → AreDifferent c k z c' k' z'
-    → IsForbidden l (motion l p c k) (p.hoist c k) (motion l p c' k') (p.hoist c' k') (pos (later p z' (p.start c' k')) -ℤ pos (later p z (p.start c k))) → ⊥
+pub none_forbidden : (l : LineData) (p : Timetable) (c k z c' k' z' : ℕ) → IsLegal l p → IsMove l c k → IsMove l c' k'
+    → AreDifferent c k z c' k' z'
+    → IsForbidden l (motion l p c k) (p.hoist c k) (motion l p c' k') (p.hoist c' k') (pos (later p z' (p.start c' k')) -ℤ pos (later p z (p.start c k)))
+    → ⊥
 none_forbidden l p c k z c' k' z' legal m m' differ bad =
     ⊎_elim
     (λ low. never_near l p c k z c' k' z' legal m m' low.0 low.1)

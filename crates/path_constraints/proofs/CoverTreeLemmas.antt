@@ -1,4 +1,5 @@
--- From the root of a tree a legal timetable goes down to a leaf, whose walks refute its period or whose move no hoist reaches.
+-- From the root of a tree a legal timetable goes down to a leaf, whose walks refute its period or whose move no hoist
+-- reaches.
 use Rattle.std.proofs.Common.{⊎_elim, ◌≡◌, ℕ, zero, suc, ◌+◌, ◌<◌, ◌≤◌, List, [], ◌∷◌, ◌++◌, length, get_or, take, refl, sym, ap, subst, ℤ, pos, ◌+ℤ◌, ◌*ℤ◌, ◌<ℤ◌, ◌≤ℤ◌, arith}
 use Rattle.std.specs.Prelude.{option_to_list}
 use Rattle.std.proofs.lemmas.Bool.{cases_lt}
@@ -42,13 +43,15 @@ walk_bound l path t period i (x ∷ xs) j keeps h =
     (((arc_of l path x).q +ℤ sum_q l path xs) *ℤ pos period) (times_add (arc_of l path x).q (sum_q l path xs) period) from (keeps x h.0)
     (walk_bound l path t period (arc_of l path x).to xs j keeps h.2)
   where
-    step : (s s' s'' s''' w ws q qs all : ℤ) → all ≡ q +ℤ qs → s' ≡ s → (s' +ℤ (w +ℤ q)) ≤ℤ s'' → (s'' +ℤ (ws +ℤ qs)) ≤ℤ s'''
+    step : (s s' s'' s''' w ws q qs all : ℤ) → all ≡ q +ℤ qs → s' ≡ s → (s' +ℤ (w +ℤ q)) ≤ℤ s''
+        → (s'' +ℤ (ws +ℤ qs)) ≤ℤ s'''
         → (s +ℤ ((w +ℤ ws) +ℤ all)) ≤ℤ s'''
     step s s' s'' s''' w ws q qs all e f g h = omega (arith, ints)
 
 -- a closed walk that refutes a period leaves no such ticks
 pub refuted : (l : LineData) (path : List Decision) (t : ℕ → ℤ) (period : ℕ) (walk : List Constraint)
-    → ((x : Constraint) → IsConstraint l path x → Keeps t period (arc_of l path x)) → IsClosedWalk l path walk → RefutesPeriod l path period walk → ⊥
+    → ((x : Constraint) → IsConstraint l path x → Keeps t period (arc_of l path x)) → IsClosedWalk l path walk
+    → RefutesPeriod l path period walk → ⊥
 refuted l path t period [] keeps closed gains = absurd closed
 refuted l path t period (x ∷ xs) keeps closed gains =
     let i : ℕ = (arc_of l path x).from in
@@ -60,7 +63,8 @@ refuted l path t period (x ∷ xs) keeps closed gains =
 -- ---- one decision more
 
 -- one more decision at a path's end
-pub fits_more : (l : LineData) (path : List Decision) (d : Decision) → FitsPath l path → FitsDecision l path d → FitsPath l (path ++ d ∷ [])
+pub fits_more : (l : LineData) (path : List Decision) (d : Decision) → FitsPath l path → FitsDecision l path d
+    → FitsPath l (path ++ d ∷ [])
 fits_more l path d fits last = λ i lt.
     ⊎_elim
     (λ below.
@@ -79,7 +83,8 @@ fits_more l path d fits last = λ i lt.
     subst R at (subst P (sym part) (subst Q (sym same) last)))
     (cases_lt i (length path))
 
-pub meets_more : (l : LineData) (p : Timetable) (path : List Decision) (d : Decision) → MeetsPath l p path → Meets l p d.question d.child
+pub meets_more : (l : LineData) (p : Timetable) (path : List Decision) (d : Decision) → MeetsPath l p path
+    → Meets l p d.question d.child
     → MeetsPath l p (path ++ d ∷ [])
 meets_more l p path d meets last = λ i lt.
     let Q : Decision → Type 0 = λ x. Meets l p x.question x.child in
@@ -96,14 +101,16 @@ meets_more l p path d meets last = λ i lt.
 
 -- ---- the leaves
 
-leaf_refuted : (l : LineData) (path : List Decision) (p : Timetable) (walks : List (List Constraint)) (bound : ℕ) → IsLine l → FitsPath l path → IsLegal l p
+leaf_refuted : (l : LineData) (path : List Decision) (p : Timetable) (walks : List (List Constraint)) (bound : ℕ)
+    → IsLine l → FitsPath l path → IsLegal l p
     → MeetsPath l p path → p.period < bound → RefuteBelow l path walks bound → ⊥
 leaf_refuted l path p walks bound line fits legal meets lt shows =
     let r = shows.refuted p.period legal.period lt in
     refuted l path (ticks_of l p) p.period r.0 (cover l path p line fits legal meets).constraints (shows.closed r.0 r.1) r.2
 
 -- the hoist of a move reaches the timetable's own tanks
-not_stuck : (l : LineData) (path : List Decision) (p : Timetable) (c k : ℕ) → IsLine l → FitsPath l path → IsLegal l p → MeetsPath l p path → IsMove l c k
+not_stuck : (l : LineData) (path : List Decision) (p : Timetable) (c k : ℕ) → IsLine l → FitsPath l path → IsLegal l p
+    → MeetsPath l p path → IsMove l c k
     → IsStuck l path c k → ⊥
 not_stuck l path p c k line fits legal meets move stuck =
     let reach = (cover l path p line fits legal meets).reach c k move in
@@ -124,8 +131,10 @@ pub record StandsAt (l : LineData) (p : Timetable) (nodes : List Node) (i : ℕ)
 abbrev StandsBelow : LineData → Timetable → List Node → ℕ → Type 0
 StandsBelow l p nodes i = (j : ℕ) × (path : List Decision) × (i < j) × (j < length nodes) × StandsAt l p nodes j path
 
-goes_down : (l : LineData) (p : Timetable) (nodes : List Node) (i : ℕ) (path : List Decision) (question : Question) (children : List ℕ) → IsLine l → IsLegal l p
-    → IsTree nodes → StandsAt l p nodes i path → node_at nodes i ≡ Split question children → IsWholeSplit l path question children → StandsBelow l p nodes i
+goes_down : (l : LineData) (p : Timetable) (nodes : List Node) (i : ℕ) (path : List Decision) (question : Question) (children : List ℕ)
+    → IsLine l → IsLegal l p
+    → IsTree nodes → StandsAt l p nodes i path → node_at nodes i ≡ Split question children
+    → IsWholeSplit l path question children → StandsBelow l p nodes i
 goes_down l p nodes i path question children line legal tree at split whole =
     let r = (cover l path p line at.fits legal at.meets).child question whole.fits in
     let d : Decision = record { question = question; child = r.0 } in
@@ -140,8 +149,10 @@ goes_down l p nodes i path question children line legal tree at split whole =
     (j, path ++ d ∷ [], later.0, later.1, below)
 
 -- what a node shows refutes the timetable, or the timetable goes down
-at_node : (l : LineData) (p : Timetable) (nodes : List Node) (i : ℕ) (path : List Decision) (bound : ℕ) (node : Node) → IsLine l → IsLegal l p → IsTree nodes
-    → p.period < bound → StandsAt l p nodes i path → node_at nodes i ≡ node → Shows l path node bound → StandsBelow l p nodes i
+at_node : (l : LineData) (p : Timetable) (nodes : List Node) (i : ℕ) (path : List Decision) (bound : ℕ) (node : Node)
+    → IsLine l → IsLegal l p → IsTree nodes
+    → p.period < bound → StandsAt l p nodes i path → node_at nodes i ≡ node → Shows l path node bound
+    → StandsBelow l p nodes i
 at_node l p nodes i path bound (Split question children) line legal tree lt at e shows = goes_down l p nodes i path question children line legal tree at e shows
 at_node l p nodes i path bound (Closed low high) line legal tree lt at e shows = absurd
     (leaf_refuted l path p (option_to_list low ++ option_to_list high) bound line at.fits legal at.meets lt shows)
@@ -151,8 +162,10 @@ at_node l p nodes i path bound (Solved low) line legal tree lt at e shows = absu
 at_node l p nodes i path bound (Left low) line legal tree lt at e shows = absurd
     (leaf_refuted l path p (option_to_list low) bound line at.fits legal at.meets lt shows)
 
-descends : (l : LineData) (p : Timetable) (nodes : List Node) (bound fuel i : ℕ) (path : List Decision) → IsLine l → IsLegal l p → IsTree nodes
-    → Proves l nodes bound → p.period < bound → i < length nodes → length nodes ≤ i + fuel → StandsAt l p nodes i path → ⊥
+descends : (l : LineData) (p : Timetable) (nodes : List Node) (bound fuel i : ℕ) (path : List Decision) → IsLine l
+    → IsLegal l p → IsTree nodes
+    → Proves l nodes bound → p.period < bound → i < length nodes → length nodes ≤ i + fuel → StandsAt l p nodes i path
+    → ⊥
 descends l p nodes bound zero i path line legal tree proves lt there enough at = absurd (omega (arith, there, enough))
 descends l p nodes bound (suc fuel) i path line legal tree proves lt there enough at =
     let (j, longer, later, inside, below) = at_node l p nodes i path bound (node_at nodes i) line legal tree lt at refl (proves i path there at.leads) in

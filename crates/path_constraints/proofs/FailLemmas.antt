@@ -14,11 +14,13 @@ use Rattle.path_constraints.specs.Tanks.{low}
 use Rattle.path_constraints.specs.Hoists.{clash_below}
 
 -- a tick of equal parts
-pub later_is : (t t' q q' : ℤ) (period : ℕ) (r : ℤ) → t ≡ t' → q ≡ q' → r ≡ periods_later t q period → r ≡ periods_later t' q' period
+pub later_is : (t t' q q' : ℤ) (period : ℕ) (r : ℤ) → t ≡ t' → q ≡ q' → r ≡ periods_later t q period
+    → r ≡ periods_later t' q' period
 later_is t t' q q' period r e f is = is ∙ ap (λ (z : ℤ). periods_later z q period) e ∙ ap (λ (z : ℤ). periods_later t' z period) f
 
 -- two comparisons of equal numbers
-pub below_is : (R : Type 0) (a b d e a' b' d' e' : ℤ) → a ≡ a' → b ≡ b' → d ≡ d' → e ≡ e' → (R ↔ ((a <ℤ b) × (d <ℤ e))) → R ↔ ((a' <ℤ b') × (d' <ℤ e'))
+pub below_is : (R : Type 0) (a b d e a' b' d' e' : ℤ) → a ≡ a' → b ≡ b' → d ≡ d' → e ≡ e' → (R ↔ ((a <ℤ b) × (d <ℤ e)))
+    → R ↔ ((a' <ℤ b') × (d' <ℤ e'))
 below_is R a b d e a' b' d' e' ea eb ed ee h =
     let P1 : ℤ → Type 0 = λ z. R ↔ ((z <ℤ b) × (d <ℤ e)) in
     let P2 : ℤ → Type 0 = λ z. R ↔ ((a' <ℤ z) × (d <ℤ e)) in
@@ -49,13 +51,16 @@ fails_hoists l path ticks period x a b q q' R e f h =
     subst P (sym e) (subst Q f h)
 
 -- the q of an order that fits is small
-pub order_small : (l : LineData) (path : List Decision) (x y : Question) → x ≡ y → Fits l path x → unsigned_abs (shift_of y) ≤ 1000000000
+pub order_small : (l : LineData) (path : List Decision) (x y : Question) → x ≡ y → Fits l path x
+    → unsigned_abs (shift_of y) ≤ 1000000000
 order_small l path x y e f = let P : Question → Type 0 = λ z. unsigned_abs (shift_of z) ≤ 1000000000 in subst P e f.small
 
-pub together_is : (l : LineData) (d : ℕ → ℕ → ℕ) (ticks : ℕ → ℤ) (period : ℕ) (a b : VisitId) (q q' : ℤ) (R : Type 0) (ba ea bb eb : ℤ) → q' ≡ q
+pub together_is : (l : LineData) (d : ℕ → ℕ → ℕ) (ticks : ℕ → ℤ) (period : ℕ) (a b : VisitId) (q q' : ℤ) (R : Type 0) (ba ea bb eb : ℤ)
+    → q' ≡ q
     → ba ≡ tick_of l ticks (begin_of l d a.carrier a.stage) → ea ≡ tick_of l ticks (end_of l d a.carrier a.stage)
     → bb ≡ tick_of l ticks (begin_of l d b.carrier b.stage) → eb ≡ tick_of l ticks (end_of l d b.carrier b.stage)
-    → (R ↔ ((periods_later bb q' period <ℤ ea) × (ba <ℤ periods_later eb q' period))) → R ↔ HoldTogether l d ticks period a b q
+    → (R ↔ ((periods_later bb q' period <ℤ ea) × (ba <ℤ periods_later eb q' period)))
+    → R ↔ HoldTogether l d ticks period a b q
 together_is l d ticks period a b q q' R ba ea bb eb e e1 e2 e3 e4 h =
     below_is R (periods_later bb q' period) ea ba (periods_later eb q' period)
     (periods_later (tick_of l ticks (begin_of l d b.carrier b.stage)) q period) (tick_of l ticks (end_of l d a.carrier a.stage))
@@ -65,7 +70,8 @@ together_is l d ticks period a b q q' R ba ea bb eb e e1 e2 e3 e4 h =
     (later_is eb (tick_of l ticks (end_of l d b.carrier b.stage)) q' q period (periods_later eb q' period) e4 e refl) h
 
 -- a clash that is there
-pub within_is : (R : Type 0) (x : Option Span) (s : Span) (o o' : ℤ) → x ≡ Some s → o ≡ o' → (R ↔ ((neg_ℤ s.before <ℤ o) × (o <ℤ s.after)))
+pub within_is : (R : Type 0) (x : Option Span) (s : Span) (o o' : ℤ) → x ≡ Some s → o ≡ o'
+    → (R ↔ ((neg_ℤ s.before <ℤ o) × (o <ℤ s.after)))
     → R ↔ IsSomeAnd x (λ span. (neg_ℤ span.before <ℤ o') × (o' <ℤ span.after))
 within_is R x s o o' e f h =
     let P : ℤ → Type 0 = λ z. R ↔ ((neg_ℤ s.before <ℤ z) × (z <ℤ s.after)) in

@@ -30,7 +30,8 @@ use Rattle.path_constraints.proofs.PlaceLemmas.{place_at, length_undecided, plac
 
 -- ---- constraints that stand on every path
 
-pub motions_same : (l : LineData) (p p' : List Decision) (c k : ℕ) → choice_of p c k ≡ choice_of p' c k → choice_of p c (k + 1) ≡ choice_of p' c (k + 1)
+pub motions_same : (l : LineData) (p p' : List Decision) (c k : ℕ) → choice_of p c k ≡ choice_of p' c k
+    → choice_of p c (k + 1) ≡ choice_of p' c (k + 1)
     → motions_below l p c k ≡ motions_below l p' c k
 motions_same l p p' c k e e' =
     ap (λ (o : Option ℕ). flat_map (λ i. map (λ j. motion_between l k i j) (tanks_below l p c (k + 1))) (tanks_by (stage l k).tanks o)) e
@@ -43,7 +44,8 @@ SameMoves l p p' t = (c k : ℕ) → IsOfMove c k t → motions_below l p c k �
 abbrev arc_by : ℕ → ℕ → ℤ → ℤ → Arc
 arc_by from to w q = record { from = from; to = to; w = w; q = q }
 
-pub arc_same : (l : LineData) (p p' : List Decision) (t : Constraint) → IsUndecided t → IsConstraint l p t → SameMoves l p p' t → arc_of l p t ≡ arc_of l p' t
+pub arc_same : (l : LineData) (p p' : List Decision) (t : Constraint) → IsUndecided t → IsConstraint l p t
+    → SameMoves l p p' t → arc_of l p t ≡ arc_of l p' t
 arc_same l p p' (Min c k) u h same =
     let e = same c (k - 1) (refl, omega (arith, h.1)) in
     ap (λ (ms : List Motion). arc_by (move_number l c (k - 1)) (move_number l c k) (pos (least_of (map duration ms) + (stage l k).min)) (pos 0)) e
@@ -77,12 +79,14 @@ some_one None h = cc
 some_one (Some x) h = (x, refl)
 
 -- a duration that is settled stays
-low_stays : (l : LineData) (path : List Decision) (i c k t u : ℕ) → FitsPath l path → tank_below l (take i path) c k ≡ Some t
+low_stays : (l : LineData) (path : List Decision) (i c k t u : ℕ) → FitsPath l path
+    → tank_below l (take i path) c k ≡ Some t
     → tank_below l (take i path) c (k + 1) ≡ Some u → low l path c k ≡ low l (take i path) c k
 low_stays l path i c k t u fits e e' =
     low_is l path c k t u (tank_stays l path i c k t fits e) (tank_stays l path i c (k + 1) u fits e') ∙ sym (low_is l (take i path) c k t u e e')
 
-low_before : (l : LineData) (path : List Decision) (i c k u : ℕ) → FitsPath l path → 0 < k → HasBegin l (take i path) c k
+low_before : (l : LineData) (path : List Decision) (i c k u : ℕ) → FitsPath l path → 0 < k
+    → HasBegin l (take i path) c k
     → tank_below l (take i path) c k ≡ Some u → low l path c (k - 1) ≡ low l (take i path) c (k - 1)
 low_before l path i c k u fits some has e =
     let before = some_one (tank_below l (take i path) c (k - 1)) (has some) in
@@ -90,14 +94,16 @@ low_before l path i c k u fits some has e =
     let P : ℕ → Type 0 = λ j. tank_below l (take i path) c j ≡ Some u in
     low_stays l path i c (k - 1) before.0 u fits before.1 (subst P next e)
 
-begin_stays : (l : LineData) (path : List Decision) (i c k u : ℕ) → FitsPath l path → HasBegin l (take i path) c k → tank_below l (take i path) c k ≡ Some u
+begin_stays : (l : LineData) (path : List Decision) (i c k u : ℕ) → FitsPath l path → HasBegin l (take i path) c k
+    → tank_below l (take i path) c k ≡ Some u
     → begin_of l (low l path) c k ≡ begin_of l (low l (take i path)) c k
 begin_stays l path i c zero u fits has e = refl
 begin_stays l path i c (suc k) u fits has e =
     let same = low_before l path i c (suc k) u fits (omega arith) has e in
     ap (λ (n : ℕ). begin_of l (λ c' k'. n) c (suc k)) same
 
-end_stays : (l : LineData) (path : List Decision) (i c k u : ℕ) → FitsPath l path → 1 ≤ last_stage l → HasBegin l (take i path) c k
+end_stays : (l : LineData) (path : List Decision) (i c k u : ℕ) → FitsPath l path → 1 ≤ last_stage l
+    → HasBegin l (take i path) c k
     → tank_below l (take i path) c k ≡ Some u → end_of l (low l path) c k ≡ end_of l (low l (take i path)) c k
 end_stays l path i c k u fits some has e =
     ⊎_elim
@@ -123,7 +129,8 @@ some_span None h = cc
 some_span (Some s) h = (s, refl)
 
 -- what an order asks stays below it
-pub decided_stays : (l : LineData) (path : List Decision) (i : ℕ) (q : Question) (child : ℕ) → FitsPath l path → 2 ≤ length l.stages → Stands l (take i path) q
+pub decided_stays : (l : LineData) (path : List Decision) (i : ℕ) (q : Question) (child : ℕ) → FitsPath l path
+    → 2 ≤ length l.stages → Stands l (take i path) q
     → decided_arc l path q child ≡ decided_arc l (take i path) q child
 decided_stays l path i (Assign m) child fits two s = refl
 decided_stays l path i (TankOrder a b q) child fits two s =
@@ -144,7 +151,8 @@ decided_stays l path i (HoistOrder a b q) child fits two s =
 decided_stays l path i (Choose v) child fits two s = refl
 
 -- what decision j asks is settled by the decisions up to it
-pub decided_at : (l : LineData) (path : List Decision) (n j : ℕ) → FitsPath l path → 2 ≤ length l.stages → j < n → n ≤ length path
+pub decided_at : (l : LineData) (path : List Decision) (n j : ℕ) → FitsPath l path → 2 ≤ length l.stages → j < n
+    → n ≤ length path
     → arc_of l (take n path) (Decided j) ≡ decided_arc l (take j path) (decision_at path j).question (decision_at path j).child
 decided_at l path n j fits two lt le =
     let d = decision_at path j in
@@ -158,12 +166,14 @@ decided_at l path n j fits two lt le =
 
 -- ---- lists
 
-pub map_same : (f g : Constraint → Arc) (xs : List Constraint) → ((t : Constraint) → In xs t → f t ≡ g t) → map f xs ≡ map g xs
+pub map_same : (f g : Constraint → Arc) (xs : List Constraint) → ((t : Constraint) → In xs t → f t ≡ g t)
+    → map f xs ≡ map g xs
 map_same f g [] h = refl
 map_same f g (x ∷ xs) h =
     ap (λ (a : Arc). a ∷ map f xs) (h x (inl refl)) ∙ ap (λ (bs : List Arc). g x ∷ bs) (map_same f g xs (λ t more. h t (inr more)))
 
-decided-push : (j : ℕ) (ds : List Decision) (d : Decision) → decided_list j (ds ++ d ∷ []) ≡ decided_list j ds ++ decided_by d.question (j + length ds)
+decided-push : (j : ℕ) (ds : List Decision) (d : Decision)
+    → decided_list j (ds ++ d ∷ []) ≡ decided_list j ds ++ decided_by d.question (j + length ds)
 decided-push j [] d = let e : j ≡ j + 0 = omega arith in append-nil (decided_by d.question j) ∙ ap (λ (n : ℕ). decided_by d.question n) e
 decided-push j (x ∷ ds) d =
     let e : j + 1 + length ds ≡ j + suc (length ds) = omega arith in
@@ -179,7 +189,8 @@ decided_more path i lt =
     ∙ ap (λ (n : ℕ). decided_list 0 (take i path) ++ decided_by (decision_at path i).question n) e
 
 -- the earlier decided constraints are as before
-pub earlier_same : (l : LineData) (path : List Decision) (i : ℕ) → FitsPath l path → 2 ≤ length l.stages → i < length path → (t : Constraint)
+pub earlier_same : (l : LineData) (path : List Decision) (i : ℕ) → FitsPath l path → 2 ≤ length l.stages
+    → i < length path → (t : Constraint)
     → In (decided_list 0 (take i path)) t → arc_of l (take (i + 1) path) t ≡ arc_of l (take i path) t
 earlier_same l path i fits two lt t h =
     let r = from_decided 0 (take i path) t h in
@@ -204,7 +215,8 @@ or_none None = refl
 or_none (Some x) = refl
 
 -- a visit that the decision does not choose for has the tanks that it had
-pub choice_more : (path : List Decision) (i c k : ℕ) → i < length path → choice_by c k (decision_at path i).question (decision_at path i).child ≡ None
+pub choice_more : (path : List Decision) (i c k : ℕ) → i < length path
+    → choice_by c k (decision_at path i).question (decision_at path i).child ≡ None
     → choice_of (take (i + 1) path) c k ≡ choice_of (take i path) c k
 choice_more path i c k lt none =
     let d = decision_at path i in
@@ -237,13 +249,15 @@ grown l path i fits two lt none =
     undecided_is : (t : Constraint) → In (undecided_list l) t → IsUndecided t
     undecided_is t h = not_decided l t (from_undecided l [] t h)
 
-    undecided_same : (t : Constraint) → In (undecided_list l) t → ((c k : ℕ) → motions_below l (take (i + 1) path) c k ≡ motions_below l (take i path) c k)
+    undecided_same : (t : Constraint) → In (undecided_list l) t
+        → ((c k : ℕ) → motions_below l (take (i + 1) path) c k ≡ motions_below l (take i path) c k)
         → arc_of l (take (i + 1) path) t ≡ arc_of l (take i path) t
     undecided_same t h motions = arc_same l (take (i + 1) path) (take i path) t (undecided_is t h) (from_undecided l (take (i + 1) path) t h)
         (λ c k of. motions c k)
 
 -- an order puts its own constraint behind the others
-pub ordered : (l : LineData) (path : List Decision) (i : ℕ) → FitsPath l path → 2 ≤ length l.stages → i < length path → IsOrder (decision_at path i).question
+pub ordered : (l : LineData) (path : List Decision) (i : ℕ) → FitsPath l path → 2 ≤ length l.stages → i < length path
+    → IsOrder (decision_at path i).question
     → arcs_of l (take (i + 1) path) ≡ arcs_of l (take i path) ++ decided_arc l (take (i + 1) path) (decision_at path i).question (decision_at path i).child ∷ []
 ordered l path i fits two lt order =
     let d = decision_at path i in
@@ -261,7 +275,8 @@ ordered l path i fits two lt order =
     by_order (Choose v) h = absurd h
 
 -- an assigned hoist changes no constraint
-pub assigned_same : (l : LineData) (path : List Decision) (i : ℕ) (m : MoveId) → FitsPath l path → 2 ≤ length l.stages → i < length path
+pub assigned_same : (l : LineData) (path : List Decision) (i : ℕ) (m : MoveId) → FitsPath l path → 2 ≤ length l.stages
+    → i < length path
     → (decision_at path i).question ≡ Assign m
     → arcs_of l (take (i + 1) path) ≡ arcs_of l (take i path)
 assigned_same l path i m fits two lt is =
@@ -277,7 +292,8 @@ get_left [] ys i d lt = absurd (omega (arith, lt))
 get_left (x ∷ xs) ys zero d lt = refl
 get_left (x ∷ xs) ys (suc i) d lt = get_left xs ys i d (omega (arith, lt))
 
-get_right : {A : Type 0} (xs ys : List A) (i : ℕ) (d : A) → length xs ≤ i → i < length (xs ++ ys) → In ys (get_or (xs ++ ys) i d)
+get_right : {A : Type 0} (xs ys : List A) (i : ℕ) (d : A) → length xs ≤ i → i < length (xs ++ ys)
+    → In ys (get_or (xs ++ ys) i d)
 get_right [] ys i d le lt = in_at ys i d lt
 get_right (x ∷ xs) ys zero d le lt = absurd (omega (arith, le))
 get_right (x ∷ xs) ys (suc i) d le lt = get_right xs ys i d (omega (arith, le)) (omega (arith, lt))
@@ -309,7 +325,8 @@ one_move c k c' k' (Visit a b) h g = (sym h.0 ∙ g.0, omega (arith, h.1, g.1))
 one_move c k c' k' (Repeat a b) h g = (sym h.0 ∙ g.0, sym h.1 ∙ g.1)
 one_move c k c' k' (Decided i) h g = absurd h
 
-pub no_choice_at : (v : VisitId) (c k child : ℕ) → ((v.carrier ≡ c) × (v.stage ≡ k) → ⊥) → choice_by c k (Choose v) child ≡ None
+pub no_choice_at : (v : VisitId) (c k child : ℕ) → ((v.carrier ≡ c) × (v.stage ≡ k) → ⊥)
+    → choice_by c k (Choose v) child ≡ None
 no_choice_at v c k child other = ⊎_elim
     (λ e. ⊎_elim (λ f. absurd (other (e, f))) (λ ne. second e (ne_eqb v.stage k ne)) (cases_eq v.stage k))
     (λ ne. first (ne_eqb v.carrier c ne)) (cases_eq v.carrier c)
@@ -327,7 +344,8 @@ no_choice_at v c k child other = ⊎_elim
         ∙ ap (λ (b : Bool). cond b (Some child) None) (and_false (v.carrier == c))
 
 -- a constraint that doesn't depend on the visit's moves is as before
-pub other_same : (l : LineData) (path : List Decision) (i : ℕ) (v : VisitId) (t : Constraint) → i < length path → (decision_at path i).question ≡ Choose v
+pub other_same : (l : LineData) (path : List Decision) (i : ℕ) (v : VisitId) (t : Constraint) → i < length path
+    → (decision_at path i).question ≡ Choose v
     → 1 ≤ v.stage → IsUndecided t → IsConstraint l (take (i + 1) path) t
     → (IsOfVisit v.carrier v.stage t → ⊥) → arc_of l (take (i + 1) path) t ≡ arc_of l (take i path) t
 other_same l path i v t lt is some u h other =
@@ -354,9 +372,11 @@ move_undecided c k (Repeat a b) h = tt
 move_undecided c k (Decided i) h = absurd h
 
 -- what the places hold after the visit's constraints were written
-pub chosen_at : (l : LineData) (path : List Decision) (i : ℕ) (v : VisitId) (old new : SystemData) → FitsPath l path → 2 ≤ length l.stages → i < length path
+pub chosen_at : (l : LineData) (path : List Decision) (i : ℕ) (v : VisitId) (old new : SystemData) → FitsPath l path
+    → 2 ≤ length l.stages → i < length path
     → (decision_at path i).question ≡ Choose v → 1 ≤ v.stage → old.arcs ≡ arcs_of l (take i path)
-    → Rewrites l (take (i + 1) path) (IsOfVisit v.carrier v.stage) old new → (j : ℕ) → j < length (constraint_list l (take i path))
+    → Rewrites l (take (i + 1) path) (IsOfVisit v.carrier v.stage) old new → (j : ℕ)
+    → j < length (constraint_list l (take i path))
     → get_or new.arcs j no_arc ≡ arc_of l (take (i + 1) path) (get_or (constraint_list l (take i path)) j (Entry 0))
 chosen_at l path i v old new fits two lt is some before rewrites j below =
     let P' = take (i + 1) path in
@@ -394,7 +414,8 @@ chosen_at l path i v old new fits two lt is some before rewrites j below =
     (rewrites.others j)
 
 -- a chosen tank changes the constraints of the moves before and after its visit
-pub chosen_same : (l : LineData) (path : List Decision) (i : ℕ) (v : VisitId) (old new : SystemData) → FitsPath l path → 2 ≤ length l.stages → i < length path
+pub chosen_same : (l : LineData) (path : List Decision) (i : ℕ) (v : VisitId) (old new : SystemData) → FitsPath l path
+    → 2 ≤ length l.stages → i < length path
     → (decision_at path i).question ≡ Choose v → 1 ≤ v.stage → old.arcs ≡ arcs_of l (take i path)
     → Rewrites l (take (i + 1) path) (IsOfVisit v.carrier v.stage) old new → new.arcs ≡ arcs_of l (take (i + 1) path)
 chosen_same l path i v old new fits two lt is some before rewrites =

@@ -31,14 +31,16 @@ in_either [] ys x h = inr h
 in_either (y ∷ xs) ys x h =
     ⊎_elim (λ e. inl (inl e)) (λ more. ⊎_elim (λ a. inl (inr a)) (λ b. inr b) (in_either xs ys x more)) h
 
-pub in_flat_map : {A B : Type 0} (f : A → List B) (xs : List A) (x : A) (t : B) → In xs x → In (f x) t → In (flat_map f xs) t
+pub in_flat_map : {A B : Type 0} (f : A → List B) (xs : List A) (x : A) (t : B) → In xs x → In (f x) t
+    → In (flat_map f xs) t
 in_flat_map f [] x t h k = absurd h
 in_flat_map {A = A} f (y ∷ ys) x t h k =
     ⊎_elim
     (λ e. let P : A → Type 0 = λ a. In (f a) t in in_left (f y) (flat_map f ys) t (subst P (sym e) k))
     (λ more. in_right (f y) (flat_map f ys) t (in_flat_map f ys x t more k)) h
 
-pub from_flat_map : {A B : Type 0} (f : A → List B) (xs : List A) (t : B) → In (flat_map f xs) t → (x : A) × In xs x × In (f x) t
+pub from_flat_map : {A B : Type 0} (f : A → List B) (xs : List A) (t : B) → In (flat_map f xs) t
+    → (x : A) × In xs x × In (f x) t
 from_flat_map f [] t h = absurd h
 from_flat_map f (y ∷ ys) t h =
     ⊎_elim (λ here. (y, inl refl, here))
@@ -108,10 +110,12 @@ from_if : (b : Bool) (x t : Constraint) → In (cond b (x ∷ []) []) t → (b �
 from_if true x t h = ⊎_elim (λ e. (refl, e)) (λ none. absurd none) h
 from_if false x t h = absurd h
 
-in_carrier : (l : LineData) (row : ℕ → List Constraint) (c : ℕ) (t : Constraint) → c < l.degree → In (row c) t → In (by_carrier l row) t
+in_carrier : (l : LineData) (row : ℕ → List Constraint) (c : ℕ) (t : Constraint) → c < l.degree → In (row c) t
+    → In (by_carrier l row) t
 in_carrier l row c t lt h = in_flat_map row (numbers_from 0 l.degree) c t (in_numbers 0 l.degree c (omega arith) (omega (arith, lt))) h
 
-from_carrier : (l : LineData) (row : ℕ → List Constraint) (t : Constraint) → In (by_carrier l row) t → (c : ℕ) × (c < l.degree) × In (row c) t
+from_carrier : (l : LineData) (row : ℕ → List Constraint) (t : Constraint) → In (by_carrier l row) t
+    → (c : ℕ) × (c < l.degree) × In (row c) t
 from_carrier l row t h =
     let r = from_flat_map row (numbers_from 0 l.degree) t h in
     let lt = from_numbers 0 l.degree r.0 r.1 in
@@ -143,7 +147,8 @@ in_mins l c k lt some few =
     (in_left (mins l ++ maxes l ++ entries l) (visits l) (Min c k)
     (in_left (mins l ++ maxes l) (entries l) (Min c k) (in_left (mins l) (maxes l) (Min c k) here)))
 
-pub in_maxes : (l : LineData) (c k : ℕ) → c < l.degree → 1 ≤ k → k ≤ last_step l → IsSome (stage l k).max → IsListed l (Max c k)
+pub in_maxes : (l : LineData) (c k : ℕ) → c < l.degree → 1 ≤ k → k ≤ last_step l → IsSome (stage l k).max
+    → IsListed l (Max c k)
 in_maxes l c k lt some few there =
     let here = in_carrier l (λ c. flat_map (λ k. cond (is_some (stage l k).max) (Max c k ∷ []) []) (inner_stages l)) c (Max c k) lt
     (in_flat_map (λ k. cond (is_some (stage l k).max) (Max c k ∷ []) []) (inner_stages l) k (Max c k)
@@ -165,7 +170,8 @@ in_visits l c k lt some few =
     in_left (mins l ++ maxes l ++ entries l ++ visits l) (repeats l) (Visit c k)
     (in_right (mins l ++ maxes l ++ entries l) (visits l) (Visit c k) here)
 
-pub in_repeats : (l : LineData) (c k : ℕ) → 2 ≤ length l.stages → c < l.degree → k ≤ last_step l → IsListed l (Repeat c k)
+pub in_repeats : (l : LineData) (c k : ℕ) → 2 ≤ length l.stages → c < l.degree → k ≤ last_step l
+    → IsListed l (Repeat c k)
 in_repeats l c k two lt few =
     let here = in_carrier l (λ c. map (λ k. Repeat c k) (steps l)) c (Repeat c k) lt
     (in_map (λ k. Repeat c k) (steps l) k (in_numbers 0 (last_stage l) k (omega arith) (omega (arith, few, two)))) in
@@ -241,7 +247,8 @@ from_decided_by (TankOrder a b q) i t h = ⊎_elim (λ e. (tt, e)) (λ none. abs
 from_decided_by (HoistOrder a b q) i t h = ⊎_elim (λ e. (tt, e)) (λ none. absurd none) h
 from_decided_by (Choose v) i t h = absurd h
 
-in_decided : (i : ℕ) (ds : List Decision) (j : ℕ) → j < length ds → IsOrder (decision_at ds j).question → In (decided_list i ds) (Decided (i + j))
+in_decided : (i : ℕ) (ds : List Decision) (j : ℕ) → j < length ds → IsOrder (decision_at ds j).question
+    → In (decided_list i ds) (Decided (i + j))
 in_decided i [] j lt order = absurd (omega (arith, lt))
 in_decided i (d ∷ ds) zero lt order =
     let e : i ≡ i + 0 = omega arith in
@@ -277,7 +284,8 @@ from_decided i (d ∷ ds) t h =
 
 -- ---- the list holds exactly the constraints of the path
 
-pub in_list : (l : LineData) (path : List Decision) (t : Constraint) → 2 ≤ length l.stages → IsConstraint l path t → In (constraint_list l path) t
+pub in_list : (l : LineData) (path : List Decision) (t : Constraint) → 2 ≤ length l.stages → IsConstraint l path t
+    → In (constraint_list l path) t
 in_list l path (Min c k) two h = in_left (undecided_list l) (decided_list 0 path) (Min c k) (in_mins l c k h.0 h.1 h.2)
 in_list l path (Max c k) two h = in_left (undecided_list l) (decided_list 0 path) (Max c k) (in_maxes l c k h.0 h.1 h.2 h.3)
 in_list l path (Entry c) two h = in_left (undecided_list l) (decided_list 0 path) (Entry c) (in_entries l c h)
@@ -288,7 +296,8 @@ in_list l path (Decided i) two h =
     let P : ℕ → Type 0 = λ n. In (constraint_list l path) (Decided n) in
     subst P e (in_right (undecided_list l) (decided_list 0 path) (Decided (0 + i)) (in_decided 0 path i h.0 h.1))
 
-pub from_list : (l : LineData) (path : List Decision) (t : Constraint) → In (constraint_list l path) t → IsConstraint l path t
+pub from_list : (l : LineData) (path : List Decision) (t : Constraint) → In (constraint_list l path) t
+    → IsConstraint l path t
 from_list l path t h =
     ⊎_elim (λ undecided. from_undecided l path t undecided)
     (λ decided.
@@ -299,8 +308,10 @@ from_list l path t h =
     subst P (sym (r.is ∙ ap (λ n. Decided n) e)) is)
     (in_either (undecided_list l) (decided_list 0 path) t h)
 
-pub listed : (l : LineData) (path : List Decision) (t : Constraint) → 2 ≤ length l.stages → IsConstraint l path t → Contains (constraint_list l path) t
+pub listed : (l : LineData) (path : List Decision) (t : Constraint) → 2 ≤ length l.stages → IsConstraint l path t
+    → Contains (constraint_list l path) t
 listed l path t two h = contains_in (constraint_list l path) t (in_list l path t two h)
 
-pub named : (l : LineData) (path : List Decision) (t : Constraint) → Contains (constraint_list l path) t → IsConstraint l path t
+pub named : (l : LineData) (path : List Decision) (t : Constraint) → Contains (constraint_list l path) t
+    → IsConstraint l path t
 named l path t h = from_list l path t (in_contains (constraint_list l path) t h)

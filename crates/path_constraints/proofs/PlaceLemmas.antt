@@ -18,17 +18,20 @@ abbrev Numbered : (Constraint → ℕ) → ℕ → List Constraint → Type 0
 Numbered f a [] = Unit {0}
 Numbered f a (x ∷ xs) = (f x ≡ a) × Numbered f (a + 1) xs
 
-numbered-append : (f : Constraint → ℕ) (a b : ℕ) (xs ys : List Constraint) → b ≡ a + length xs → Numbered f a xs → Numbered f b ys → Numbered f a (xs ++ ys)
+numbered-append : (f : Constraint → ℕ) (a b : ℕ) (xs ys : List Constraint) → b ≡ a + length xs → Numbered f a xs
+    → Numbered f b ys → Numbered f a (xs ++ ys)
 numbered-append f a b [] ys e h k = let P : ℕ → Type 0 = λ n. Numbered f n ys in let same : b ≡ a = omega (arith, e) in subst P same k
 numbered-append f a b (x ∷ xs) ys e h k = (h.0, numbered-append f (a + 1) b xs ys (omega (arith, e)) h.1 k)
 
-numbered_at : (f : Constraint → ℕ) (a : ℕ) (xs : List Constraint) (i : ℕ) (d : Constraint) → Numbered f a xs → i < length xs → f (get_or xs i d) ≡ a + i
+numbered_at : (f : Constraint → ℕ) (a : ℕ) (xs : List Constraint) (i : ℕ) (d : Constraint) → Numbered f a xs
+    → i < length xs → f (get_or xs i d) ≡ a + i
 numbered_at f a [] i d h lt = absurd (omega (arith, lt))
 numbered_at f a (x ∷ xs) zero d h lt = omega (arith, h.0)
 numbered_at f a (x ∷ xs) (suc i) d h lt = omega (arith, numbered_at f (a + 1) xs i d h.1 (omega (arith, lt)))
 
 -- a row of constraints by stage or step
-numbered_row : (f : Constraint → ℕ) (g : ℕ → Constraint) (first count a : ℕ) → ((k : ℕ) → first ≤ k → f (g k) ≡ a + (k - first))
+numbered_row : (f : Constraint → ℕ) (g : ℕ → Constraint) (first count a : ℕ)
+    → ((k : ℕ) → first ≤ k → f (g k) ≡ a + (k - first))
     → Numbered f a (map g (numbers_from first count))
 numbered_row f g first zero a h = tt
 numbered_row f g first (suc count) a h = (
@@ -37,8 +40,10 @@ numbered_row f g first (suc count) a h = (
 )
 
 -- rows of one width by carrier
-numbered_carriers : (f : Constraint → ℕ) (row : ℕ → List Constraint) (base width first count : ℕ) → ((c : ℕ) → length (row c) ≡ width)
-    → ((c : ℕ) → Numbered f (base + c * width) (row c)) → Numbered f (base + first * width) (flat_map row (numbers_from first count))
+numbered_carriers : (f : Constraint → ℕ) (row : ℕ → List Constraint) (base width first count : ℕ)
+    → ((c : ℕ) → length (row c) ≡ width)
+    → ((c : ℕ) → Numbered f (base + c * width) (row c))
+    → Numbered f (base + first * width) (flat_map row (numbers_from first count))
 numbered_carriers f row base width first zero wide h = tt
 numbered_carriers f row base width first (suc count) wide h =
     let next : base + (first + 1) * width ≡ base + first * width + length (row first) = omega (arith, wide first) in
@@ -51,7 +56,8 @@ length_carriers row width first zero wide = omega arith
 length_carriers row width first (suc count) wide =
     omega (arith, length-append (row first) (flat_map row (numbers_from (first + 1) count)), wide first, length_carriers row width (first + 1) count wide)
 
-by_carriers : (f : Constraint → ℕ) (l : LineData) (row : ℕ → List Constraint) (base width : ℕ) → ((c : ℕ) → length (row c) ≡ width)
+by_carriers : (f : Constraint → ℕ) (l : LineData) (row : ℕ → List Constraint) (base width : ℕ)
+    → ((c : ℕ) → length (row c) ≡ width)
     → ((c : ℕ) → Numbered f (base + c * width) (row c)) → Numbered f base (by_carrier l row)
 by_carriers f l row base width wide h =
     let e : base + 0 * width ≡ base = omega arith in
@@ -88,7 +94,8 @@ max_no l k some e =
     ∙ ap (λ (xs : List ℕ). length (filter P xs)) (numbers_from-push 1 (k - 1) ∙ ap (λ (n : ℕ). numbers_from 1 (k - 1) ++ n ∷ []) at)
     ∙ count_end_no P (numbers_from 1 (k - 1)) k e
 
-numbered_max : (l : LineData) (c base first count : ℕ) → 1 ≤ first → ((k : ℕ) → place l (Max c k) ≡ base + maxes_before l k)
+numbered_max : (l : LineData) (c base first count : ℕ) → 1 ≤ first
+    → ((k : ℕ) → place l (Max c k) ≡ base + maxes_before l k)
     → Numbered (place l) (base + maxes_before l first) (flat_map (max_row l c) (numbers_from first count))
 numbered_max l c base first zero some h = tt
 numbered_max l c base first (suc count) some h =
@@ -112,11 +119,13 @@ numbered_max l c base first (suc count) some h =
         let Q : ℕ → Type 0 = λ n. Numbered (place l) n (flat_map (max_row l c) (numbers_from (first + 1) count)) in
         subst P (sym row) (subst Q next rest)
 
-length_max : (l : LineData) (c : ℕ) (ks : List ℕ) → length (flat_map (max_row l c) ks) ≡ length (filter (λ j. is_some (stage l j).max) ks)
+length_max : (l : LineData) (c : ℕ) (ks : List ℕ)
+    → length (flat_map (max_row l c) ks) ≡ length (filter (λ j. is_some (stage l j).max) ks)
 length_max l c [] = refl
 length_max l c (k ∷ ks) = at_head (has_max l k) refl (length_max l c ks)
   where
-    at_head : (b : Bool) → has_max l k ≡ b → length (flat_map (max_row l c) ks) ≡ length (filter (λ j. is_some (stage l j).max) ks)
+    at_head : (b : Bool) → has_max l k ≡ b
+        → length (flat_map (max_row l c) ks) ≡ length (filter (λ j. is_some (stage l j).max) ks)
         → length (flat_map (max_row l c) (k ∷ ks)) ≡ length (filter (λ j. is_some (stage l j).max) (k ∷ ks))
     at_head true e same =
         let left = ap (λ (b : Bool). length (cond b (Max c k ∷ []) [] ++ flat_map (max_row l c) ks)) e in
@@ -135,7 +144,8 @@ few_maxes l k = omega (arith, few (λ j. is_some (stage l j).max) (numbers_from 
     few p [] = omega arith
     few p (x ∷ xs) = at_head (p x) (few p xs)
       where
-        at_head : (b : Bool) → length (filter p xs) ≤ length xs → length (cond b (x ∷ filter p xs) (filter p xs)) ≤ length (x ∷ xs)
+        at_head : (b : Bool) → length (filter p xs) ≤ length xs
+            → length (cond b (x ∷ filter p xs) (filter p xs)) ≤ length (x ∷ xs)
         at_head true le = omega (arith, le)
         at_head false le = omega (arith, le)
 
@@ -219,11 +229,13 @@ numbered_list l =
     (omega (arith, e1, e2, e3, length_mins l, length_max_list l, length_entries l, length_visits l)) m4 n5
 
 -- the constraint at a place stands there
-pub place_at : (l : LineData) (i : ℕ) (d : Constraint) → i < undecided_count l → place l (get_or (undecided_list l) i d) ≡ i
+pub place_at : (l : LineData) (i : ℕ) (d : Constraint) → i < undecided_count l
+    → place l (get_or (undecided_list l) i d) ≡ i
 place_at l i d lt =
     omega (arith, numbered_at (place l) 0 (undecided_list l) i d (numbered_list l) (omega (arith, lt, length_undecided l)))
 
-pub is_listed : (l : LineData) (path : List Decision) (t : Constraint) → 2 ≤ length l.stages → IsUndecided t → IsConstraint l path t → IsListed l t
+pub is_listed : (l : LineData) (path : List Decision) (t : Constraint) → 2 ≤ length l.stages → IsUndecided t
+    → IsConstraint l path t → IsListed l t
 is_listed l path (Min c k) two u h = in_mins l c k h.0 h.1 h.2
 is_listed l path (Max c k) two u h = in_maxes l c k h.0 h.1 h.2 h.3
 is_listed l path (Entry c) two u h = in_entries l c h
@@ -236,7 +248,8 @@ pub record Placed (l : LineData) (t d : Constraint) : Type 0 where
   pub there : place l t < undecided_count l
   pub is : get_or (undecided_list l) (place l t) d ≡ t
 
-pub placed : (l : LineData) (path : List Decision) (t d : Constraint) → 2 ≤ length l.stages → IsUndecided t → IsConstraint l path t → Placed l t d
+pub placed : (l : LineData) (path : List Decision) (t d : Constraint) → 2 ≤ length l.stages → IsUndecided t
+    → IsConstraint l path t → Placed l t d
 placed l path t d two u h =
     let r = place_in (undecided_list l) t d (is_listed l path t two u h) in
     let lt : r.0 < undecided_count l = omega (arith, r.1, length_undecided l) in
@@ -244,7 +257,8 @@ placed l path t d two u h =
     record { there = omega (arith, same, lt); is = ap (λ (n : ℕ). get_or (undecided_list l) n d) same ∙ r.2 }
 
 -- no two stand at one place
-pub place_once : (l : LineData) (path : List Decision) (t u : Constraint) → 2 ≤ length l.stages → IsUndecided t → IsUndecided u → IsConstraint l path t
+pub place_once : (l : LineData) (path : List Decision) (t u : Constraint) → 2 ≤ length l.stages → IsUndecided t
+    → IsUndecided u → IsConstraint l path t
     → IsConstraint l path u → place l t ≡ place l u → t ≡ u
 place_once l path t u two a b h k e =
     let p = placed l path t t two a h in

@@ -43,7 +43,8 @@ filter_yes f xs x e = ap (λ (b : Bool). cond b (x ∷ filter f xs) (filter f xs
 filter_no : (f : ℕ → Bool) (xs : List ℕ) (x : ℕ) → f x ≡ false → filter f (x ∷ xs) ≡ filter f xs
 filter_no f xs x e = ap (λ (b : Bool). cond b (x ∷ filter f xs) (filter f xs)) e
 
-pub count_end_yes : (f : ℕ → Bool) (xs : List ℕ) (x : ℕ) → f x ≡ true → length (filter f (xs ++ x ∷ [])) ≡ length (filter f xs) + 1
+pub count_end_yes : (f : ℕ → Bool) (xs : List ℕ) (x : ℕ) → f x ≡ true
+    → length (filter f (xs ++ x ∷ [])) ≡ length (filter f xs) + 1
 count_end_yes f [] x e = ap (λ (ys : List ℕ). length ys) (filter_yes f [] x e)
 count_end_yes f (y ∷ ys) x e = at_head (f y) refl (count_end_yes f ys x e)
   where
@@ -58,11 +59,13 @@ count_end_yes f (y ∷ ys) x e = at_head (f y) refl (count_end_yes f ys x e)
         let right = ap (λ (zs : List ℕ). length zs) (filter_no f ys y h) in
         omega (arith, left, right, more)
 
-pub count_end_no : (f : ℕ → Bool) (xs : List ℕ) (x : ℕ) → f x ≡ false → length (filter f (xs ++ x ∷ [])) ≡ length (filter f xs)
+pub count_end_no : (f : ℕ → Bool) (xs : List ℕ) (x : ℕ) → f x ≡ false
+    → length (filter f (xs ++ x ∷ [])) ≡ length (filter f xs)
 count_end_no f [] x e = ap (λ (ys : List ℕ). length ys) (filter_no f [] x e)
 count_end_no f (y ∷ ys) x e = at_head (f y) refl (count_end_no f ys x e)
   where
-    at_head : (b : Bool) → f y ≡ b → length (filter f (ys ++ x ∷ [])) ≡ length (filter f ys) → length (filter f (y ∷ ys ++ x ∷ [])) ≡ length (filter f (y ∷ ys))
+    at_head : (b : Bool) → f y ≡ b → length (filter f (ys ++ x ∷ [])) ≡ length (filter f ys)
+        → length (filter f (y ∷ ys ++ x ∷ [])) ≡ length (filter f (y ∷ ys))
     at_head true h more =
         let left = ap (λ (zs : List ℕ). length zs) (filter_yes f (ys ++ x ∷ []) y h) in
         let right = ap (λ (zs : List ℕ). length zs) (filter_yes f ys y h) in
@@ -84,7 +87,8 @@ counted_yes f h n m is e up =
     let more = ap (λ (xs : List ℕ). length (filter f xs)) (next_numbers h) in
     omega (arith, is, up, more, count_end_yes f (numbers_from 0 h) h e)
 
-pub counted_no : (f : ℕ → Bool) (h n m : ℕ) → n ≡ length (filter f (numbers_from 0 h)) → f h ≡ false → m ≡ n → m ≡ length (filter f (numbers_from 0 (h + 1)))
+pub counted_no : (f : ℕ → Bool) (h n m : ℕ) → n ≡ length (filter f (numbers_from 0 h)) → f h ≡ false → m ≡ n
+    → m ≡ length (filter f (numbers_from 0 (h + 1)))
 counted_no f h n m is e same =
     let more = ap (λ (xs : List ℕ). length (filter f xs)) (next_numbers h) in
     omega (arith, is, same, more, count_end_no f (numbers_from 0 h) h e)
@@ -93,7 +97,8 @@ counted_no f h n m is e same =
 first_number : (h n : ℕ) → h < n → numbers_from h (n - h) ≡ h ∷ numbers_from (h + 1) (n - (h + 1))
 first_number h n lt = let e : n - h ≡ suc (n - (h + 1)) = omega arith in ap (λ (m : ℕ). numbers_from h m) e
 
-pub found_here : (f : ℕ → Bool) (h n left : ℕ) (o : Option ℕ) → h < n → f h ≡ true → left ≡ 0 → slice_get (filter f (numbers_from h (n - h))) left ≡ o
+pub found_here : (f : ℕ → Bool) (h n left : ℕ) (o : Option ℕ) → h < n → f h ≡ true → left ≡ 0
+    → slice_get (filter f (numbers_from h (n - h))) left ≡ o
     → Some h ≡ o
 found_here f h n left o lt e first all =
     let xs : filter f (numbers_from h (n - h)) ≡ h ∷ filter f (numbers_from (h + 1) (n - (h + 1))) =
@@ -108,7 +113,8 @@ found_later f h n left next o lt e more all =
     ap (λ (ys : List ℕ). filter f ys) (first_number h n lt) ∙ filter_yes f (numbers_from (h + 1) (n - (h + 1))) h e in
     sym (ap (λ (k : ℕ). slice_get (filter f (numbers_from h (n - h))) k) more ∙ ap (λ (ys : List ℕ). slice_get ys (suc next)) xs) ∙ all
 
-pub found_past : (f : ℕ → Bool) (h n left : ℕ) (o : Option ℕ) → h < n → f h ≡ false → slice_get (filter f (numbers_from h (n - h))) left ≡ o
+pub found_past : (f : ℕ → Bool) (h n left : ℕ) (o : Option ℕ) → h < n → f h ≡ false
+    → slice_get (filter f (numbers_from h (n - h))) left ≡ o
     → slice_get (filter f (numbers_from (h + 1) (n - (h + 1)))) left ≡ o
 found_past f h n left o lt e all =
     let xs : filter f (numbers_from h (n - h)) ≡ filter f (numbers_from (h + 1) (n - (h + 1))) =

@@ -1,4 +1,5 @@
--- How far apart the ticks of two moves are that meet the constraints of a path at a period, so that a q that they leave open is small.
+-- How far apart the ticks of two moves are that meet the constraints of a path at a period, so that a q that they leave
+-- open is small.
 use Rattle.std.proofs.Common.{⊎_elim, ◌≡◌, ℕ, zero, suc, ◌+◌, ◌-◌, ◌*◌, ◌<◌, ◌≤◌, List, [], ◌∷◌, ◌++◌, length, map, max, ap, subst, arith, pos, ℤ, Bool, cond, eq-eqb}
 use Rattle.std.specs.Prelude.{flat_map, fold, ◌+ℤ◌, ◌-ℤ◌, ◌≤ℤ◌, negsuc}
 use Rattle.std.proofs.lemmas.Bool.{cases_lt, ne_eqb}
@@ -34,7 +35,8 @@ under_row : (n : ℕ) (row : ℕ → Motion) (ys : List ℕ) → ((j : ℕ) → 
 under_row n row [] h = tt
 under_row n row (y ∷ ys) h = (h y, under_row n row ys h)
 
-under_rows : (n : ℕ) (mb : ℕ → ℕ → Motion) (xs ys : List ℕ) → ((i j : ℕ) → duration (mb i j) ≤ n) → Under n (flat_map (λ i. map (λ j. mb i j) ys) xs)
+under_rows : (n : ℕ) (mb : ℕ → ℕ → Motion) (xs ys : List ℕ) → ((i j : ℕ) → duration (mb i j) ≤ n)
+    → Under n (flat_map (λ i. map (λ j. mb i j) ys) xs)
 under_rows n mb [] ys h = tt
 under_rows n mb (x ∷ xs) ys h =
     under-append n (map (λ j. mb x j) ys) (flat_map (λ i. map (λ j. mb i j) ys) xs) (under_row n (λ j. mb x j) ys (h x)) (under_rows n mb xs ys h)
@@ -80,11 +82,13 @@ keeps_all l path s period line solves t is =
 abbrev pub at_move : LineData → (ℕ → ℤ) → ℕ → ℕ → ℤ
 at_move l s c k = s (move_number l c k)
 
-step_up : (l : LineData) (path : List Decision) (s : ℕ → ℤ) (period c k : ℕ) → KeepsAll l path s period → c < l.degree → 1 ≤ k → k ≤ last_step l
+step_up : (l : LineData) (path : List Decision) (s : ℕ → ℤ) (period c k : ℕ) → KeepsAll l path s period → c < l.degree
+    → 1 ≤ k → k ≤ last_step l
     → at_move l s c (k - 1) ≤ℤ at_move l s c k
 step_up l path s period c k keeps lt some few = omega (arith, ints, keeps (Min c k) (lt, some, few))
 
-step_down : (l : LineData) (path : List Decision) (s : ℕ → ℤ) (period c k : ℕ) → IsLine l → KeepsAll l path s period → c < l.degree → 1 ≤ k → k ≤ last_step l
+step_down : (l : LineData) (path : List Decision) (s : ℕ → ℤ) (period c k : ℕ) → IsLine l → KeepsAll l path s period
+    → c < l.degree → 1 ≤ k → k ≤ last_step l
     → at_move l s c k ≤ℤ (at_move l s c (k - 1) +ℤ pos (period + 2000))
 step_down l path s period c k line keeps lt some few =
     let inner : k ≡ last_stage l → ⊥ = λ e. omega (arith, e, few, line.limits.stages.0) in
@@ -103,7 +107,8 @@ step_down l path s period c k line keeps lt some few =
     omega (arith, ints, kept, high_small l path c (k - 1) line (omega (arith, some, few, line.limits.stages.0)))
 
 -- move k of a carrier starts not before its first, and at most so long after it
-pub carrier_spread : (l : LineData) (path : List Decision) (s : ℕ → ℤ) (period c k : ℕ) → IsLine l → KeepsAll l path s period → c < l.degree → k ≤ last_step l
+pub carrier_spread : (l : LineData) (path : List Decision) (s : ℕ → ℤ) (period c k : ℕ) → IsLine l
+    → KeepsAll l path s period → c < l.degree → k ≤ last_step l
     → (at_move l s c 0 ≤ℤ at_move l s c k) × (at_move l s c k ≤ℤ (at_move l s c 0 +ℤ pos (k * (period + 2000))))
 carrier_spread l path s period c zero line keeps lt few = (omega (arith, ints), omega (arith, ints))
 carrier_spread l path s period c (suc k) line keeps lt few =
@@ -116,7 +121,8 @@ carrier_spread l path s period c (suc k) line keeps lt few =
 
 -- ---- the first moves of the carriers
 
-entry_up : (l : LineData) (path : List Decision) (s : ℕ → ℤ) (period c : ℕ) → KeepsAll l path s period → c + 1 < l.degree
+entry_up : (l : LineData) (path : List Decision) (s : ℕ → ℤ) (period c : ℕ) → KeepsAll l path s period
+    → c + 1 < l.degree
     → at_move l s c 0 ≤ℤ at_move l s (c + 1) 0
 entry_up l path s period c keeps lt =
     let inner : c + 1 ≡ l.degree → ⊥ = λ e. omega (arith, e, lt) in
@@ -127,7 +133,8 @@ entry_up l path s period c keeps lt =
     let kept : Keeps s period arc = subst P is (keeps (Entry c) (omega (arith, lt))) in
     omega (arith, ints, kept)
 
-entry_around : (l : LineData) (path : List Decision) (s : ℕ → ℤ) (period c : ℕ) → KeepsAll l path s period → c + 1 ≡ l.degree
+entry_around : (l : LineData) (path : List Decision) (s : ℕ → ℤ) (period c : ℕ) → KeepsAll l path s period
+    → c + 1 ≡ l.degree
     → at_move l s c 0 ≤ℤ (s 0 +ℤ pos period)
 entry_around l path s period c keeps e =
     let arc : Arc = record { from = move_number l c 0; to = move_number l (c + 1) 0; w = pos (l.load + (stage l 0).lift); q = pos 0 } in
@@ -137,7 +144,8 @@ entry_around l path s period c keeps e =
     let kept : Keeps s period last = subst P is (keeps (Entry c) (omega (arith, e))) in
     omega (arith, ints, kept)
 
-first_up : (l : LineData) (path : List Decision) (s : ℕ → ℤ) (period c n : ℕ) → KeepsAll l path s period → c + n < l.degree
+first_up : (l : LineData) (path : List Decision) (s : ℕ → ℤ) (period c n : ℕ) → KeepsAll l path s period
+    → c + n < l.degree
     → at_move l s c 0 ≤ℤ at_move l s (c + n) 0
 first_up l path s period c zero keeps lt = let e : at_move l s (c + 0) 0 ≡ at_move l s c 0 = ap (λ (d : ℕ). at_move l s d 0) (omega arith) in omega
     (arith, ints, e)
@@ -145,7 +153,8 @@ first_up l path s period c (suc n) keeps lt =
     let e : at_move l s (c + n + 1) 0 ≡ at_move l s (c + suc n) 0 = ap (λ (d : ℕ). at_move l s d 0) (omega arith) in
     omega (arith, ints, first_up l path s period c n keeps (omega (arith, lt)), entry_up l path s period (c + n) keeps (omega (arith, lt)), e)
 
-pub first_spread : (l : LineData) (path : List Decision) (s : ℕ → ℤ) (period c : ℕ) → KeepsAll l path s period → c < l.degree
+pub first_spread : (l : LineData) (path : List Decision) (s : ℕ → ℤ) (period c : ℕ) → KeepsAll l path s period
+    → c < l.degree
     → (s 0 ≤ℤ at_move l s c 0) × (at_move l s c 0 ≤ℤ (s 0 +ℤ pos period))
 first_spread l path s period c keeps lt =
     let first : at_move l s (0 + c) 0 ≡ at_move l s c 0 = ap (λ (d : ℕ). at_move l s d 0) (omega arith) in
@@ -159,7 +168,8 @@ first_spread l path s period c keeps lt =
 -- ---- two moves
 
 -- no two moves of a period start further apart
-pub spread : (l : LineData) (path : List Decision) (s : ℕ → ℤ) (period c k c' k' : ℕ) → IsLine l → KeepsAll l path s period → IsMove l c k → IsMove l c' k'
+pub spread : (l : LineData) (path : List Decision) (s : ℕ → ℤ) (period c k c' k' : ℕ) → IsLine l
+    → KeepsAll l path s period → IsMove l c k → IsMove l c' k'
     → at_move l s c k ≤ℤ (at_move l s c' k' +ℤ pos (32 * period + 62000))
 spread l path s period c k c' k' line keeps m m' =
     let a = carrier_spread l path s period c k line keeps m.0 (omega (arith, m.1)) in

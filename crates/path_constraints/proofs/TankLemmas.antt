@@ -20,11 +20,13 @@ none_if None h = refl
 none_if (Some n) h = absurd (h n refl)
 
 -- where a stage has one tank no choice is made
-pub no_choice : (l : LineData) (path : List Decision) (c k : ℕ) → FitsPath l path → length (stage l k).tanks < 2 → choice_of path c k ≡ None
+pub no_choice : (l : LineData) (path : List Decision) (c k : ℕ) → FitsPath l path → length (stage l k).tanks < 2
+    → choice_of path c k ≡ None
 no_choice l path c k fits few = none_if (choice_of path c k) (λ n e. omega (arith, few, choice_several l path c k n fits e))
 
 -- a choice is one of the stage's tanks
-pub choice_there : (l : LineData) (path : List Decision) (c k n : ℕ) → FitsPath l path → choice_of path c k ≡ Some n → n < length (stage l k).tanks
+pub choice_there : (l : LineData) (path : List Decision) (c k n : ℕ) → FitsPath l path → choice_of path c k ≡ Some n
+    → n < length (stage l k).tanks
 choice_there l path c k n fits e =
     let r = chosen path c k n e in
     let d = decision_at path r.place in
@@ -34,7 +36,8 @@ choice_there l path c k n fits e =
     omega (arith, subst S r.stage here, r.child)
 
 -- a stage's tanks are the line's
-pub tank_there : (l : LineData) (k i : ℕ) → IsLine l → i < length (stage l k).tanks → get_or (stage l k).tanks i 0 < length l.tanks
+pub tank_there : (l : LineData) (k i : ℕ) → IsLine l → i < length (stage l k).tanks
+    → get_or (stage l k).tanks i 0 < length l.tanks
 tank_there l k i line lt = line.stages.there k (get_or (stage l k).tanks i 0) (Contains-get_or (stage l k).tanks i 0 lt)
 
 -- a visit whose tank is chosen, or whose stage has one tank, has one tank
@@ -52,8 +55,10 @@ one_at (x ∷ xs) zero lt = refl
 one_at (x ∷ xs) (suc n) lt = one_at xs n (omega arith)
 
 -- a fold over the motions from one tank, and then from those behind it
-pub fold_row : (h : ℕ → ℕ → ℕ) (g : Motion → ℕ) (row : ℕ → List Motion) (xs : List ℕ) (i x d a b n : ℕ) → i < length xs → x ≡ get_or xs i d
-    → b ≡ fold h a (map g (row x)) → fold h a (map g (flat_map row (drop i xs))) ≡ n → fold h b (map g (flat_map row (drop (i + 1) xs))) ≡ n
+pub fold_row : (h : ℕ → ℕ → ℕ) (g : Motion → ℕ) (row : ℕ → List Motion) (xs : List ℕ) (i x d a b n : ℕ) → i < length xs
+    → x ≡ get_or xs i d
+    → b ≡ fold h a (map g (row x)) → fold h a (map g (flat_map row (drop i xs))) ≡ n
+    → fold h b (map g (flat_map row (drop (i + 1) xs))) ≡ n
 fold_row h g row xs i x d a b n lt read is all =
     let rest = flat_map row (drop (i + 1) xs) in
     let split : drop i xs ≡ x ∷ drop (i + 1) xs = drop_more xs i d lt ∙ ap (λ (y : ℕ). y ∷ drop (i + 1) xs) (sym read) in
@@ -64,7 +69,8 @@ fold_row h g row xs i x d a b n lt read is all =
     sym step ∙ all
 
 -- the code's reading of a stage's tanks
-pub tanks_read : (l : LineData) (k : ℕ) (s : Stage) (xs : List Stage) (ts : List ℕ) → xs ≡ l.stages → k < length l.stages → ts ≡ (get_or xs k s).tanks
+pub tanks_read : (l : LineData) (k : ℕ) (s : Stage) (xs : List Stage) (ts : List ℕ) → xs ≡ l.stages
+    → k < length l.stages → ts ≡ (get_or xs k s).tanks
     → ts ≡ (stage l k).tanks
 tanks_read l k s xs ts all lt is =
     let lt' : k < length xs = omega (arith, lt, ap (λ (ys : List Stage). length ys) all) in
@@ -72,13 +78,15 @@ tanks_read l k s xs ts all lt is =
     is ∙ ap (λ (t : Stage). t.tanks) here ∙ ap (λ (ys : List Stage). (get_or ys k no_stage).tanks) all
 
 -- a stage with one tank has that one below every path
-pub few_tanks : (l : LineData) (path : List Decision) (c k : ℕ) (ts : List ℕ) → FitsPath l path → ts ≡ (stage l k).tanks → length ts < 2
+pub few_tanks : (l : LineData) (path : List Decision) (c k : ℕ) (ts : List ℕ) → FitsPath l path → ts ≡ (stage l k).tanks
+    → length ts < 2
     → ts ≡ tanks_below l path c k
 few_tanks l path c k ts fits is few =
     let few' : length (stage l k).tanks < 2 = omega (arith, few, ap (λ (ys : List ℕ). length ys) is) in
     is ∙ ap (λ (o : Option ℕ). tanks_by (stage l k).tanks o) (sym (no_choice l path c k fits few'))
 
-pub tanks_there : (l : LineData) (k : ℕ) (ts : List ℕ) → IsLine l → ts ≡ (stage l k).tanks → (i : ℕ) → i < length ts → get_or ts i 0 < length l.tanks
+pub tanks_there : (l : LineData) (k : ℕ) (ts : List ℕ) → IsLine l → ts ≡ (stage l k).tanks → (i : ℕ) → i < length ts
+    → get_or ts i 0 < length l.tanks
 tanks_there l k ts line is i lt =
     let lt' : i < length (stage l k).tanks = omega (arith, lt, ap (λ (ys : List ℕ). length ys) is) in
     omega (arith, tank_there l k i line lt', ap (λ (ys : List ℕ). get_or ys i 0) is)
@@ -87,7 +95,8 @@ one_there : (n : ℕ) (ts us : List ℕ) (x : ℕ) → us ≡ x ∷ [] → x < n
 one_there n ts us x is lt zero in_it = omega (arith, lt, ap (λ (ys : List ℕ). get_or ys 0 0) is)
 one_there n ts us x is lt (suc i) in_it = absurd (omega (arith, in_it, ap (λ (ys : List ℕ). length ys) is))
 
-pub chosen_there : (l : LineData) (k n m : ℕ) (ts : List ℕ) → IsLine l → ts ≡ (stage l k).tanks → n < length ts → m ≡ 1 → (i : ℕ)
+pub chosen_there : (l : LineData) (k n m : ℕ) (ts : List ℕ) → IsLine l → ts ≡ (stage l k).tanks → n < length ts → m ≡ 1
+    → (i : ℕ)
     → i < length (take m (drop n ts)) → get_or (take m (drop n ts)) i 0 < length l.tanks
 chosen_there l k n m ts line is lt one =
     one_there (length l.tanks) ts (take m (drop n ts)) (get_or ts n 0)

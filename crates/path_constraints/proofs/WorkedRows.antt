@@ -1,5 +1,5 @@
--- Worked lines under the definitions, by computation: the constraints of a line with one bath, a decided constraint on two
--- hoists, a stage with two tanks, and the holds of a tank that is visited twice.
+-- Worked lines under the definitions, by computation: the constraints of a line with one bath, a decided constraint on
+-- two hoists, a stage with two tanks, and the holds of a tank that is visited twice.
 use Rattle.std.proofs.Common.{◌≡◌, ℕ, List, [], ◌∷◌, refl, Some, None, pos, negsuc, ℤ, get_or}
 use Rattle.hoist_base.specs.LineData.{LineData}
 use Rattle.hoist_base.specs.declared.stage.Stage.{Stage}

@@ -14,7 +14,8 @@ use Rattle.path_constraints.specs.Places.{place, IsUndecided, IsOfMove, Rewrites
 use Rattle.path_constraints.proofs.PlaceLemmas.{place_once}
 
 -- a constraint that stands on every path
-pub on_any : (l : LineData) (p p' : List Decision) (t : Constraint) → IsUndecided t → IsConstraint l p t → IsConstraint l p' t
+pub on_any : (l : LineData) (p p' : List Decision) (t : Constraint) → IsUndecided t → IsConstraint l p t
+    → IsConstraint l p' t
 on_any l p p' (Min c k) u h = h
 on_any l p p' (Max c k) u h = h
 on_any l p p' (Entry c) u h = h
@@ -26,7 +27,8 @@ abbrev no_arc : Arc
 no_arc = record { from = 0; to = 0; w = pos 0; q = pos 0 }
 
 -- a path without the constraint leaves all as it is
-pub written_none : (l : LineData) (path : List Decision) (name : Constraint) (old new : SystemData) → (IsConstraint l path name → ⊥) → new ≡ old
+pub written_none : (l : LineData) (path : List Decision) (name : Constraint) (old new : SystemData)
+    → (IsConstraint l path name → ⊥) → new ≡ old
     → Rewrites l path (λ t. t ≡ name) old new
 written_none l path name old new missing same = record {
   nodes = ap (λ (s : SystemData). s.nodes) same;
@@ -35,7 +37,8 @@ written_none l path name old new missing same = record {
   others = λ j. inl (ap (λ (s : SystemData). arc s j) same);
 }
 
-pub written_one : (l : LineData) (path : List Decision) (name : Constraint) (old new : SystemData) (p : ℕ) (a : Arc) → IsConstraint l path name
+pub written_one : (l : LineData) (path : List Decision) (name : Constraint) (old new : SystemData) (p : ℕ) (a : Arc)
+    → IsConstraint l path name
     → p ≡ place l name → p < length old.arcs → a ≡ arc_of l path name
     → new ≡ record { nodes = old.nodes; arcs = slice_set old.arcs p a } → Rewrites l path (λ t. t ≡ name) old new
 written_one l path name old new p a named at there is same =
@@ -50,7 +53,8 @@ written_one l path name old new p a named at there is same =
     }
 
 -- one writing after another
-pub rewrites_then : (l : LineData) (path : List Decision) (K K' : Constraint → Type 0) (a b d : SystemData) → 2 ≤ length l.stages
+pub rewrites_then : (l : LineData) (path : List Decision) (K K' : Constraint → Type 0) (a b d : SystemData)
+    → 2 ≤ length l.stages
     → ((t : Constraint) → K t → IsUndecided t) → ((t : Constraint) → K' t → IsUndecided t)
     → Rewrites l path K a b → Rewrites l path K' b d → Rewrites l path (λ t. K t ⊎ K' t) a d
 rewrites_then l path K K' a b d two ku ku' first second = record {
@@ -81,7 +85,8 @@ rewrites_as l path K K' a b back forth r = record {
   others = λ j. ⊎_elim (λ same. inl same) (λ w. inr (w.0, w.1, forth w.0 w.1 w.2, w.3)) (r.others j);
 }
 
-pub places_stay : (l : LineData) (path : List Decision) (K : Constraint → Type 0) (a b : SystemData) → Rewrites l path K a b → HasPlaces l a → HasPlaces l b
+pub places_stay : (l : LineData) (path : List Decision) (K : Constraint → Type 0) (a b : SystemData)
+    → Rewrites l path K a b → HasPlaces l a → HasPlaces l b
 places_stay l path K a b r h = (r.nodes ∙ h.0, omega (arith, r.count, h.1))
 
 pub is_undecided : (name t : Constraint) → IsUndecided name → t ≡ name → IsUndecided t
@@ -109,8 +114,10 @@ four_forth c k j t e h =
     (λ h2. let is : IsOfMove c k (Max c j) = (refl, e) in subst P (sym h2) is) h3)
     (λ h3. let is : IsOfMove c k (Visit c j) = (refl, e) in subst P (sym h3) is) h
 
-pub written_move : (l : LineData) (path : List Decision) (c k j : ℕ) (s0 s1 s2 s3 s4 : SystemData) → 2 ≤ length l.stages → j ≡ k + 1
-    → Rewrites l path (λ t. t ≡ Repeat c k) s0 s1 → Rewrites l path (λ t. t ≡ Min c j) s1 s2 → Rewrites l path (λ t. t ≡ Max c j) s2 s3
+pub written_move : (l : LineData) (path : List Decision) (c k j : ℕ) (s0 s1 s2 s3 s4 : SystemData) → 2 ≤ length l.stages
+    → j ≡ k + 1
+    → Rewrites l path (λ t. t ≡ Repeat c k) s0 s1 → Rewrites l path (λ t. t ≡ Min c j) s1 s2
+    → Rewrites l path (λ t. t ≡ Max c j) s2 s3
     → Rewrites l path (λ t. t ≡ Visit c j) s3 s4
     → Rewrites l path (IsOfMove c k) s0 s4
 written_move l path c k j s0 s1 s2 s3 s4 two e a b d f =

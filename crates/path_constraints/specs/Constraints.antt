@@ -1,5 +1,5 @@
--- The constraints of a path: what the ticks of the moves meet in every legal timetable that meets its decisions.
--- Each says that the tick of node `to` less that of node `from` is at least w + q * period; nodes are the numbers of moves.
+-- The constraints of a path: what the ticks of the moves meet in every legal timetable that meets its decisions. Each
+-- says that the tick of node `to` less that of node `from` is at least w + q * period; nodes are the numbers of moves.
 use Rattle.std.specs.Prelude.{ℕ, ◌+◌, ◌-◌, ◌<◌, ◌≤◌, ◌==◌, if◌then◌else◌, is_some, IsSome, List, [], ◌∷◌, ◌++◌, map, flat_map, length, unwrap_or, ℤ, pos, negsuc, ◌-ℤ◌, ◌≤ℤ◌, ◌+ℤ◌, neg_ℤ, Option, Some, None}
 use Rattle.hoist_base.specs.LineData.{LineData, stage, last_stage, last_step, move_number}
 use Rattle.hoist_base.specs.declared.ids.MoveId.{MoveId}
@@ -33,7 +33,8 @@ tank_arc l path a b q child =
     then moment_arc l (end_of l (low l path) a.carrier a.stage) (begin_of l (low l path) b.carrier b.stage) q
     else moment_arc l (end_of l (low l path) b.carrier b.stage) (begin_of l (low l path) a.carrier a.stage) (neg_ℤ q)
 
--- child 0: move b, q periods later, starts at least `after` ticks after move a; child 1: a starts `before` ticks after that b
+-- child 0: move b, q periods later, starts at least `after` ticks after move a; child 1: a starts `before` ticks after
+-- that b
 abbrev pub span_arc : LineData → MoveId → MoveId → ℤ → ℕ → Option Span → Arc
 span_arc l a b q child None = no_arc
 span_arc l a b q child (Some span) =

@@ -15,8 +15,8 @@ use Rattle.path_constraints.specs.Questions.{Fits, FitsPath, child_count}
 use Rattle.path_constraints.specs.Meets.{ticks_of, Meets, MeetsPath}
 use Rattle.path_constraints.specs.Proves.{Proves}
 
--- the timetable goes on below the path: it meets the path's constraints at its period, its hoists reach its moves, and it
--- meets some child of every question that fits
+-- the timetable goes on below the path: it meets the path's constraints at its period, its hoists reach its moves, and
+-- it meets some child of every question that fits
 pub record GoesOn (l : LineData) (path : List Decision) (p : Timetable) : Type 0 where
   pub constraints : (t : Constraint) → IsConstraint l path t → Keeps (ticks_of l p) p.period (arc_of l path t)
   pub reach : (c k : ℕ) → IsMove l c k → ReachesMotion l (p.hoist c k) (motion l p c k)

@@ -18,7 +18,8 @@ IsBefore c k c' k' = (c < c') ⊎ ((c ≡ c') × (k < k'))
 abbrev pub HasBegin : LineData → List Decision → ℕ → ℕ → Type 0
 HasBegin l path c k = 0 < k → IsSome (tank_below l path c (k - 1))
 
--- a and b are visits in their order that have one tank each below the path, the same, and the begins of whose holds are settled
+-- a and b are visits in their order that have one tank each below the path, the same, and the begins of whose holds are
+-- settled
 pub record ShareTank (l : LineData) (path : List Decision) (a b : VisitId) : Type 0 where
   pub first : IsVisit l a.carrier a.stage
   pub second : IsVisit l b.carrier b.stage

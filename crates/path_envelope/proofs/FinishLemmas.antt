@@ -35,7 +35,8 @@ slot_reach l p h s at have f =
     omega (arith, a, b, r.0.0, r.1.0)
 
 -- the lowest heights leave the hoists above their room
-pub height_reach : (l : LineData) (p : Timetable) (h t height : ℕ) → IsLine l → HaveReach l p → h < l.hoists → IsLowestAt l p h t height → height ≤ l.track
+pub height_reach : (l : LineData) (p : Timetable) (h t height : ℕ) → IsLine l → HaveReach l p → h < l.hoists
+    → IsLowestAt l p h t height → height ≤ l.track
 height_reach l p h t height line have there lowest =
     ⊎_elim
     (λ base.
@@ -43,12 +44,14 @@ height_reach l p h t height line have there lowest =
     omega (arith, a, base, line.room))
     (λ (x, (fixed, le, is)).
     let r = point_reach l p x have fixed in
-    let a : (h - x.hoist) * l.gap ≤ (l.hoists - 1 - x.hoist) * l.gap = mul-le (h - x.hoist) l.gap (l.hoists - 1 - x.hoist) l.gap (omega (arith, there)) (omega arith) in
+    let a : (h - x.hoist) * l.gap ≤ (l.hoists - 1 - x.hoist) * l.gap = mul-le (h - x.hoist) l.gap
+    (l.hoists - 1 - x.hoist) l.gap (omega (arith, there)) (omega arith) in
     omega (arith, a, is, r.2))
     lowest.some
 
 -- a lower or the same hoist's fixed point leaves another its room
-over : (l : LineData) (p : Timetable) (rows : List ℕ) (x y : Point) → 0 < p.period → HaveReach l p → AreLayers l p l.hoists rows → IsFixed l p x → IsFixed l p y
+over : (l : LineData) (p : Timetable) (rows : List ℕ) (x y : Point) → 0 < p.period → HaveReach l p
+    → AreLayers l p l.hoists rows → IsFixed l p x → IsFixed l p y
     → x.hoist ≤ y.hoist → x.at + (y.hoist - x.hoist) * l.gap ≤ y.at + apart x y
 over l p rows x y pp have layers fx fy le =
     let s : ℕ = (p.start fy.0 fy.1 + fy.2) % p.period in
@@ -67,7 +70,8 @@ over l p rows x y pp have layers fx fy le =
     (layer.lowest s s_in).forced (shifted p x v) (x.at + (y.hoist - x.hoist) * l.gap - away) (shift l p x v fx, le, refl) in
     omega (arith, through, same, keeps)
 
-pub agree : (l : LineData) (p : Timetable) (rows : List ℕ) → 0 < p.period → HaveReach l p → AreLayers l p l.hoists rows → Agree l p
+pub agree : (l : LineData) (p : Timetable) (rows : List ℕ) → 0 < p.period → HaveReach l p → AreLayers l p l.hoists rows
+    → Agree l p
 agree l p rows pp have layers x y fx fy contradict =
     let sym_apart : apart x y ≡ apart y x = omega (arith, ints) in
     ⊎_elim
@@ -88,18 +92,25 @@ agree l p rows pp have layers x y fx fy contradict =
 entry_of : (p : Timetable) (rows : List ℕ) (i : ℕ) → get_or rows i 0 ≡ entry p rows (i / p.period) (i % p.period)
 entry_of p rows i = ap (λ k. get_or rows k 0) (sym (div-add-mod' i p.period))
 
-pub small : (l : LineData) (p : Timetable) (n : ℕ) (rows : List ℕ) → 0 < p.period → n ≤ l.hoists → IsLine l → HaveReach l p → AreLayers l p n rows → (i : ℕ) → get_or rows i 0 ≤ l.track
+pub small : (l : LineData) (p : Timetable) (n : ℕ) (rows : List ℕ) → 0 < p.period → n ≤ l.hoists → IsLine l
+    → HaveReach l p → AreLayers l p n rows → (i : ℕ) → get_or rows i 0 ≤ l.track
 small l p n rows pp le line have layers i =
     ⊎_elim
     (λ inside.
     let h : ℕ = i / p.period in
     let h_in : h < n = div_below i p.period n pp (omega (arith, inside, layers.count)) in
     let t_in : i % p.period < p.period = mod_below i p.period pp in
-    omega (arith, entry_of p rows i, height_reach l p h (i % p.period) (entry p rows h (i % p.period)) line have (omega (arith, h_in, le)) ((layers.layer h h_in).lowest (i % p.period) t_in)))
+    omega (
+      arith,
+      entry_of p rows i,
+      height_reach l p h (i % p.period) (entry p rows h (i % p.period)) line have
+          (omega (arith, h_in, le)) ((layers.layer h h_in).lowest (i % p.period) t_in),
+    ))
     (λ past. let e : get_or rows i 0 ≡ 0 = get_or_past rows i 0 past in omega (arith, e))
     (cases_lt i (length rows))
 
-track : (l : LineData) (p : Timetable) (rows : List ℕ) → 0 < p.period → IsLine l → HaveReach l p → AreLayers l p l.hoists rows → IsTrack l (on_paths p rows)
+track : (l : LineData) (p : Timetable) (rows : List ℕ) → 0 < p.period → IsLine l → HaveReach l p
+    → AreLayers l p l.hoists rows → IsTrack l (on_paths p rows)
 track l p rows pp line have layers = record {
   spaced = λ t. record {
     within = λ h lt. small l p l.hoists rows pp (omega arith) line have layers (h * p.period + t % p.period);
@@ -115,7 +126,8 @@ track l p rows pp line have layers = record {
       omega (arith, s.0, e);
 }
 
-pub are_lowest : (l : LineData) (p : Timetable) (rows : List ℕ) → 0 < p.period → IsLine l → HaveReach l p → AreLayers l p l.hoists rows → AreLowest l p rows
+pub are_lowest : (l : LineData) (p : Timetable) (rows : List ℕ) → 0 < p.period → IsLine l → HaveReach l p
+    → AreLayers l p l.hoists rows → AreLowest l p rows
 are_lowest l p rows pp line have layers = record {
   count = layers.count;
   small = small l p l.hoists rows pp (omega arith) line have layers;
@@ -127,7 +139,8 @@ are_lowest l p rows pp line have layers = record {
 }
 
 -- a slot that is fixed at another position than the row's shows two fixed points that contradict
-pub off_row : (l : LineData) (p : Timetable) (h s at height : ℕ) → HaveReach l p → FixesSlot l p h s at → IsLowestAt l p h s height → at < height → Agree l p → ⊥
+pub off_row : (l : LineData) (p : Timetable) (h s at height : ℕ) → HaveReach l p → FixesSlot l p h s at
+    → IsLowestAt l p h s height → at < height → Agree l p → ⊥
 off_row l p h s at height have f lowest above agree =
     ⊎_elim
     (λ base. omega (arith, base, above, slot_reach l p h s at have f))
@@ -145,7 +158,8 @@ off_row l p h s at height have f lowest above agree =
     lowest.some
 
 -- so do two positions at one slot
-pub two_positions : (l : LineData) (p : Timetable) (h s a b : ℕ) → FixesSlot l p h s a → FixesSlot l p h s b → a ≢ b → Agree l p → ⊥
+pub two_positions : (l : LineData) (p : Timetable) (h s a b : ℕ) → FixesSlot l p h s a → FixesSlot l p h s b → a ≢ b
+    → Agree l p → ⊥
 two_positions l p h s a b f g differ agree =
     let x : Point = record { hoist = h; tick = pos s +ℤ pos 0 -ℤ pos 0; at = a } in
     let y : Point = record { hoist = h; tick = pos s +ℤ pos 0 -ℤ pos 0; at = b } in

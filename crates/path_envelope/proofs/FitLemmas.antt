@@ -20,22 +20,26 @@ pub record FitSoFar (l : LineData) (route : List ℕ) (period : ℕ) (starts hoi
   pub reach : (c k : ℕ) → IsMove l c k → move_number l c k < n
       → ReachesMotion l (get_or hoists (move_number l c k) 0) (motion l (duties l route period starts hoists) c k)
 
-pub none_yet : (l : LineData) (route : List ℕ) (period : ℕ) (starts hoists : List ℕ) → FitSoFar l route period starts hoists 0
+pub none_yet : (l : LineData) (route : List ℕ) (period : ℕ) (starts hoists : List ℕ)
+    → FitSoFar l route period starts hoists 0
 none_yet l route period starts hoists = record {
   small = λ i lt. absurd (omega (arith, lt));
   hoist = λ c k m lt. absurd (omega (arith, lt));
   reach = λ c k m lt. absurd (omega (arith, lt));
 }
 
-pub fit_more : (l : LineData) (route : List ℕ) (period : ℕ) (starts hoists : List ℕ) (n h : ℕ) (m : Motion) → Seen l route n m → get_or starts n 0 ≤ 1000000000 → h ≡ get_or hoists n 0 → h < l.hoists
+pub fit_more : (l : LineData) (route : List ℕ) (period : ℕ) (starts hoists : List ℕ) (n h : ℕ) (m : Motion)
+    → Seen l route n m → get_or starts n 0 ≤ 1000000000 → h ≡ get_or hoists n 0 → h < l.hoists
     → ReachesMotion l h m → FitSoFar l route period starts hoists n → FitSoFar l route period starts hoists (n + 1)
 fit_more l route period starts hoists n h m seen early is there reaches so_far = record {
   small = λ i lt.
-      ⊎_elim (λ below. so_far.small i below) (λ past. let e : get_or starts i 0 ≡ get_or starts n 0 = ap (λ j. get_or starts j 0) (omega (arith, lt, past)) in omega (arith, e, early)) (cases_lt i n);
+      ⊎_elim (λ below. so_far.small i below) (λ past. let e : get_or starts i 0 ≡ get_or starts n 0 = ap
+      (λ j. get_or starts j 0) (omega (arith, lt, past)) in omega (arith, e, early)) (cases_lt i n);
   hoist = λ c k move lt.
       ⊎_elim
       (λ below. so_far.hoist c k move below)
-      (λ past. let e : get_or hoists (move_number l c k) 0 ≡ get_or hoists n 0 = ap (λ j. get_or hoists j 0) (omega (arith, lt, past)) in omega (arith, e, is, there))
+      (λ past. let e : get_or hoists (move_number l c k) 0 ≡ get_or hoists n 0 = ap (λ j. get_or hoists j 0)
+      (omega (arith, lt, past)) in omega (arith, e, is, there))
       (cases_lt (move_number l c k) n);
   reach = λ c k move lt.
       ⊎_elim
@@ -49,7 +53,8 @@ fit_more l route period starts hoists n h m seen early is there reaches so_far =
       (cases_lt (move_number l c k) n);
 }
 
-pub fit_all : (l : LineData) (route : List ℕ) (period : ℕ) (starts hoists : List ℕ) (n : ℕ) → IsRoute l route → 1 ≤ period → period ≤ 20000 → length starts ≡ move_count l → length hoists ≡ move_count l → n ≡ move_count l
+pub fit_all : (l : LineData) (route : List ℕ) (period : ℕ) (starts hoists : List ℕ) (n : ℕ) → IsRoute l route
+    → 1 ≤ period → period ≤ 20000 → length starts ≡ move_count l → length hoists ≡ move_count l → n ≡ move_count l
     → FitSoFar l route period starts hoists n → AreMoves l route period starts hoists
 fit_all l route period starts hoists n route_fits some few starts_fit hoists_fit all fit = record {
   route_fits = route_fits;

@@ -16,8 +16,10 @@ use Rattle.path_envelope.specs.Slots.{FixesSlot, held, IsBelow}
 use Rattle.path_envelope.proofs.ShiftLemmas.{shifted, shift, in_slot, periods_between, slot_of, turns_of, slow_apart}
 
 -- a slow row through a fixed point is no lower at another tick than the point forces
-pub forced_by_own : (l : LineData) (p : Timetable) (row : ℕ → ℕ) (t : ℕ) (x : Point) → 0 < p.period → t < p.period → IsSlow p.period row
-    → ((s at : ℕ) → FixesSlot l p x.hoist s at → at ≤ row s) → (f : IsFixed l p x) → x.at ≤ row t + unsigned_abs (x.tick -ℤ pos t)
+pub forced_by_own : (l : LineData) (p : Timetable) (row : ℕ → ℕ) (t : ℕ) (x : Point) → 0 < p.period → t < p.period
+    → IsSlow p.period row
+    → ((s at : ℕ) → FixesSlot l p x.hoist s at → at ≤ row s) → (f : IsFixed l p x)
+    → x.at ≤ row t + unsigned_abs (x.tick -ℤ pos t)
 forced_by_own l p row t x pp lt slow through f =
     let s : ℕ = (p.start f.0 f.1 + f.2) % p.period in
     let s_in : s < p.period = mod_below (p.start f.0 f.1 + f.2) p.period pp in
@@ -39,7 +41,8 @@ no_gap : (gap h x : ℕ) → x ≡ h → (h - x) * gap ≡ 0
 no_gap gap h x e = let d : (h - x) * gap ≡ 0 * gap = ap (λ n. n * gap) (omega (arith, e)) in omega (arith, d)
 
 -- what every fixed point forces, it keeps
-layer_forced : (l : LineData) (p : Timetable) (h : ℕ) (asked : List (Option ℕ)) (low : Option (List ℕ)) (row : ℕ → ℕ) → 0 < p.period
+layer_forced : (l : LineData) (p : Timetable) (h : ℕ) (asked : List (Option ℕ)) (low : Option (List ℕ)) (row : ℕ → ℕ)
+    → 0 < p.period
     → Suffices l p.period h asked low row → ((s at : ℕ) → FixesSlot l p h s at → at ≤ row s) → IsBelow l p h low
     → (t : ℕ) → t < p.period → (x : Point) (least : ℕ) → Forces l p h t least x → least ≤ row t
 layer_forced l p h asked None row pp s through below t lt x least (f, le, is) =
@@ -70,7 +73,8 @@ which_fixed None = inl refl
 which_fixed (Some v) = inr (v, refl, refl)
 
 -- where a height comes from a fixed position
-from_fixed : (l : LineData) (p : Timetable) (h t height s at m n : ℕ) → FixesSlot l p h s at → (s + n) % p.period ≡ (t + m) % p.period → height + (m + n) ≡ at
+from_fixed : (l : LineData) (p : Timetable) (h t height s at m n : ℕ) → FixesSlot l p h s at
+    → (s + n) % p.period ≡ (t + m) % p.period → height + (m + n) ≡ at
     → ((x : Point) (least : ℕ) → Forces l p h t least x → least ≤ height) → (x : Point) × Forces l p h t height x
 from_fixed l p h t height s at m n f e is forced =
     let x : Point = record { hoist = h; tick = pos t +ℤ pos m -ℤ pos n; at = at } in
@@ -82,9 +86,11 @@ from_fixed l p h t height s at m n f e is forced =
     (x, (fixed, omega arith, omega (arith, is, z, up, near)))
 
 -- where it comes from the row below
-from_below : (l : LineData) (p : Timetable) (h g t height s low m n : ℕ) → h ≡ g + 1 → (s + n) % p.period ≡ (t + m) % p.period → height + (m + n) ≡ low + l.gap
+from_below : (l : LineData) (p : Timetable) (h g t height s low m n : ℕ) → h ≡ g + 1
+    → (s + n) % p.period ≡ (t + m) % p.period → height + (m + n) ≡ low + l.gap
     → h * l.gap ≤ height → IsLowestAt l p g s low
-    → ((x : Point) (least : ℕ) → Forces l p h t least x → least ≤ height) → (height ≡ h * l.gap) ⊎ ((x : Point) × Forces l p h t height x)
+    → ((x : Point) (least : ℕ) → Forces l p h t least x → least ≤ height)
+    → (height ≡ h * l.gap) ⊎ ((x : Point) × Forces l p h t height x)
 from_below l p h g t height s low m n up e is room lowest forced =
     let gaps : h * l.gap ≡ g * l.gap + l.gap = ap (λ k. k * l.gap) up ∙ omega arith in
     ⊎_elim
@@ -107,7 +113,8 @@ from_below l p h g t height s low m n up e is room lowest forced =
 
 -- every height of the least row is the room below, or forced by a fixed point
 layer_some : (l : LineData) (p : Timetable) (h : ℕ) (asked : List (Option ℕ)) (low : Option (List ℕ)) (row : ℕ → ℕ)
-    → ((s at : ℕ) → held asked s ≡ Some at → FixesSlot l p h s at) → IsBelow l p h low → ComesFrom p.period (need l h asked low) row
+    → ((s at : ℕ) → held asked s ≡ Some at → FixesSlot l p h s at) → IsBelow l p h low
+    → ComesFrom p.period (need l h asked low) row
     → (t : ℕ) → t < p.period → h * l.gap ≤ row t → ((x : Point) (least : ℕ) → Forces l p h t least x → least ≤ row t)
     → (row t ≡ h * l.gap) ⊎ ((x : Point) × Forces l p h t (row t) x)
 layer_some l p h asked None row sound below from t lt room forced =
@@ -135,8 +142,10 @@ layer_some l p h asked (Some lower) row sound below from t lt room forced =
     (greatest (unwrap_or (held asked w.0) 0) (get_or lower w.0 0 + l.gap)))
     (greatest (h * l.gap) (max (unwrap_or (held asked w.0) 0) (get_or lower w.0 0 + l.gap)))
 
-pub layer_lowest : (l : LineData) (p : Timetable) (h : ℕ) (asked : List (Option ℕ)) (low : Option (List ℕ)) (row : ℕ → ℕ) → 0 < p.period
-    → ((s at : ℕ) → held asked s ≡ Some at → FixesSlot l p h s at) → ((s at : ℕ) → FixesSlot l p h s at → at ≤ row s) → IsBelow l p h low
+pub layer_lowest : (l : LineData) (p : Timetable) (h : ℕ) (asked : List (Option ℕ)) (low : Option (List ℕ)) (row : ℕ → ℕ)
+    → 0 < p.period
+    → ((s at : ℕ) → held asked s ≡ Some at → FixesSlot l p h s at) → ((s at : ℕ) → FixesSlot l p h s at → at ≤ row s)
+    → IsBelow l p h low
     → Suffices l p.period h asked low row → ComesFrom p.period (need l h asked low) row
     → (t : ℕ) → t < p.period → IsLowestAt l p h t (row t)
 layer_lowest l p h asked low row pp sound through below s from t lt =

@@ -16,29 +16,45 @@ covers : (o : Option ℕ) (x : ℕ) → IfSome o (λ at. at ≤ x) → unwrap_or
 covers None x le = omega arith
 covers (Some a) x le = le
 
-above : (o : Option (List ℕ)) (gap t x : ℕ) → option_map_or (λ below. get_or below t 0 + gap) o 0 ≤ x → IfSome o (λ below. get_or below t 0 + gap ≤ x)
+above : (o : Option (List ℕ)) (gap t x : ℕ) → option_map_or (λ below. get_or below t 0 + gap) o 0 ≤ x
+    → IfSome o (λ below. get_or below t 0 + gap ≤ x)
 above None gap t x le = tt
 above (Some a) gap t x le = le
 
-covers_above : (o : Option (List ℕ)) (gap t x : ℕ) → IfSome o (λ below. get_or below t 0 + gap ≤ x) → option_map_or (λ below. get_or below t 0 + gap) o 0 ≤ x
+covers_above : (o : Option (List ℕ)) (gap t x : ℕ) → IfSome o (λ below. get_or below t 0 + gap ≤ x)
+    → option_map_or (λ below. get_or below t 0 + gap) o 0 ≤ x
 covers_above None gap t x le = omega arith
 covers_above (Some a) gap t x le = le
 
 -- a row that suffices is at or above each need
-meets_need : (l : LineData) (period h : ℕ) (asked : List (Option ℕ)) (low : Option (List ℕ)) (row : ℕ → ℕ) → Suffices l period h asked low row → (t : ℕ) → t < period → need l h asked low t ≤ row t
+meets_need : (l : LineData) (period h : ℕ) (asked : List (Option ℕ)) (low : Option (List ℕ)) (row : ℕ → ℕ)
+    → Suffices l period h asked low row → (t : ℕ) → t < period → need l h asked low t ≤ row t
 meets_need l period h asked low row s t lt =
     omega (arith, s.room t lt, covers (get_or asked t None) (row t) (s.fixed t lt), covers_above low l.gap t (row t) (s.above t lt))
 
 -- so it is at or above a row whose heights come from needs
-below_all : (l : LineData) (period h : ℕ) (asked : List (Option ℕ)) (low : Option (List ℕ)) (row other : ℕ → ℕ) → 0 < period → ComesFrom period (need l h asked low) row → Suffices l period h asked low other → (t : ℕ) → t < period → row t ≤ other t
+below_all : (l : LineData) (period h : ℕ) (asked : List (Option ℕ)) (low : Option (List ℕ)) (row other : ℕ → ℕ)
+    → 0 < period → ComesFrom period (need l h asked low) row → Suffices l period h asked low other → (t : ℕ)
+    → t < period → row t ≤ other t
 below_all l period h asked low row other p from s t lt =
     let w = from t lt in
     let a : other (w.0 % period) ≡ other w.0 = ap other (mod-eq_of_lt w.3) in
     let b : other (t % period) ≡ other t = ap other (mod-eq_of_lt lt) in
     let e : other ((w.0 + w.2) % period) ≡ other ((t + w.1) % period) = ap other w.4 in
-    omega (arith, a, b, e, w.5, meets_need l period h asked low other s w.0 w.3, (slow_far period other w.0 w.2 p s.slow).0, (slow_far period other t w.1 p s.slow).1)
+    omega (
+      arith,
+      a,
+      b,
+      e,
+      w.5,
+      meets_need l period h asked low other s w.0 w.3,
+      (slow_far period other w.0 w.2 p s.slow).0,
+      (slow_far period other t w.1 p s.slow).1,
+    )
 
-pub least_row : (l : LineData) (period h : ℕ) (asked : List (Option ℕ)) (low : Option (List ℕ)) (row : List ℕ) → 0 < period → length row ≡ period → IsSwept period (need l h asked low) (λ t. get_or row t 0) → IsLeastRow l period h asked low row
+pub least_row : (l : LineData) (period h : ℕ) (asked : List (Option ℕ)) (low : Option (List ℕ)) (row : List ℕ)
+    → 0 < period → length row ≡ period → IsSwept period (need l h asked low) (λ t. get_or row t 0)
+    → IsLeastRow l period h asked low row
 least_row l period h asked low row p count s = record {
   count = count;
   suffices = record {
@@ -50,13 +66,15 @@ least_row l period h asked low row p count s = record {
   least = λ other os. below_all l period h asked low (λ t. get_or row t 0) other p s.from os;
 }
 
-turned : (n : ℕ) (xs ys : List ℕ) → length xs ≡ n → ys ≡ reverse xs → (t : ℕ) → t < n → get_or ys t 0 ≡ get_or xs (n - 1 - t) 0
+turned : (n : ℕ) (xs ys : List ℕ) → length xs ≡ n → ys ≡ reverse xs → (t : ℕ) → t < n
+    → get_or ys t 0 ≡ get_or xs (n - 1 - t) 0
 turned n xs ys count is t lt =
     let e : get_or ys t 0 ≡ get_or (reverse xs) t 0 = ap (λ (zs : List ℕ). get_or zs t 0) is in
     let d : get_or xs (length xs - 1 - t) 0 ≡ get_or xs (n - 1 - t) 0 = ap (λ k. get_or xs (k - 1 - t) 0) count in
     e ∙ (get_or-reverse xs t 0 (omega (arith, lt, count)) ∙ d)
 
-from_needs : (n : ℕ) (f : ℕ → ℕ) (needs a : List ℕ) → ((t : ℕ) → t < n → get_or needs t 0 ≡ f t) → IsRaised n (λ t. get_or needs t 0) (λ t. get_or a t 0) → IsRaised n f (λ t. get_or a t 0)
+from_needs : (n : ℕ) (f : ℕ → ℕ) (needs a : List ℕ) → ((t : ℕ) → t < n → get_or needs t 0 ≡ f t)
+    → IsRaised n (λ t. get_or needs t 0) (λ t. get_or a t 0) → IsRaised n f (λ t. get_or a t 0)
 from_needs n f needs a is r = record {
   least = λ t lt. omega (arith, is t lt, r.least t lt);
   falls = r.falls;
@@ -65,13 +83,15 @@ from_needs n f needs a is r = record {
 }
 
 -- needs, raised, turned round, raised and turned back
-pub both_ways : (n : ℕ) (f : ℕ → ℕ) (needs a b c row : List ℕ) → length needs ≡ n → length a ≡ length needs → length b ≡ length a → length c ≡ length b
+pub both_ways : (n : ℕ) (f : ℕ → ℕ) (needs a b c row : List ℕ) → length needs ≡ n → length a ≡ length needs
+    → length b ≡ length a → length c ≡ length b
     → ((t : ℕ) → t < length needs → get_or needs t 0 ≡ f t)
     → IsRaised (length needs) (λ t. get_or needs t 0) (λ t. get_or a t 0) → b ≡ reverse a
     → IsRaised (length b) (λ t. get_or b t 0) (λ t. get_or c t 0) → row ≡ reverse c → IsSwept n f (λ t. get_or row t 0)
 both_ways n f needs a b c row n0 an bn cn is left ba right rc =
     let l : IsRaised n (λ t. get_or needs t 0) (λ t. get_or a t 0) = subst (λ (k : ℕ). IsRaised k (λ t. get_or needs t 0) (λ t. get_or a t 0)) n0 left in
-    let r : IsRaised n (λ t. get_or b t 0) (λ t. get_or c t 0) = subst (λ (k : ℕ). IsRaised k (λ t. get_or b t 0) (λ t. get_or c t 0)) (omega (arith, n0, an, bn)) right in
+    let r : IsRaised n (λ t. get_or b t 0) (λ t. get_or c t 0) = subst
+    (λ (k : ℕ). IsRaised k (λ t. get_or b t 0) (λ t. get_or c t 0)) (omega (arith, n0, an, bn)) right in
     let an' : length a ≡ n = an ∙ n0 in
     let cn' : length c ≡ n = cn ∙ (bn ∙ an') in
     swept n f (λ t. get_or a t 0) (λ t. get_or b t 0) (λ t. get_or c t 0) (λ t. get_or row t 0)

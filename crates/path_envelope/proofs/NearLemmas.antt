@@ -41,7 +41,8 @@ copies n tick z w =
     let f : (z +ℤ (w -ℤ z)) *ℤ pos n ≡ w *ℤ pos n = ap (λ (y : ℤ). y *ℤ pos n) e in
     omega (arith, ints, f, times_add z (w -ℤ z) n)
 
-pub nearest_after : (n to tick : ℕ) (to_z result : ℤ) → 0 < n → to_z ≡ pos to → 2 * wait n to tick < n → result ≡ to_z +ℤ pos (wait n to tick) → IsNearestTick n to_z tick result
+pub nearest_after : (n to tick : ℕ) (to_z result : ℤ) → 0 < n → to_z ≡ pos to → 2 * wait n to tick < n
+    → result ≡ to_z +ℤ pos (wait n to tick) → IsNearestTick n to_z tick result
 nearest_after n to tick to_z result p te near is =
     let r : ℕ = wait n to tick in
     let (z, at) = next_copy n to tick p in (
@@ -51,11 +52,15 @@ nearest_after n to tick to_z result p te near is =
           let j : ℤ = w -ℤ z in
           let c = copies n tick z w in
           by_lt_z j (pos 0)
-          (λ before. let d = down j 1 n (omega (arith, ints, before)) in (omega (arith, ints, te, is, at, c, d, near), λ same. absurd (omega (arith, ints, te, is, at, c, d, near, same))))
+          (λ before. let d = down j 1 n (omega (arith, ints, before)) in (
+            omega (arith, ints, te, is, at, c, d, near),
+            λ same. absurd (omega (arith, ints, te, is, at, c, d, near, same)),
+          ))
           (λ from. let u = up j 0 n (omega (arith, ints, from)) in (omega (arith, ints, te, is, at, c, u, near), λ same. omega (arith, ints, from))),
     )
 
-pub nearest_before : (n to tick : ℕ) (to_z result : ℤ) → 0 < n → to_z ≡ pos to → n ≤ 2 * wait n to tick → result ≡ to_z +ℤ pos (wait n to tick) -ℤ pos n → IsNearestTick n to_z tick result
+pub nearest_before : (n to tick : ℕ) (to_z result : ℤ) → 0 < n → to_z ≡ pos to → n ≤ 2 * wait n to tick
+    → result ≡ to_z +ℤ pos (wait n to tick) -ℤ pos n → IsNearestTick n to_z tick result
 nearest_before n to tick to_z result p te far is =
     let r : ℕ = wait n to tick in
     let small : r < n = mod_below (tick % n + n - to % n) n p in
@@ -70,7 +75,10 @@ nearest_before n to tick to_z result p te far is =
           let j : ℤ = w -ℤ z in
           let c = copies n tick z w in
           by_lt_z (j +ℤ pos 1) (pos 0)
-          (λ before. let d = down j 2 n (omega (arith, ints, before)) in (omega (arith, ints, te, is, at, c, d, small), λ same. absurd (omega (arith, ints, te, is, at, c, d, small, same, p))))
+          (λ before. let d = down j 2 n (omega (arith, ints, before)) in (
+            omega (arith, ints, te, is, at, c, d, small),
+            λ same. absurd (omega (arith, ints, te, is, at, c, d, small, same, p)),
+          ))
           (λ from.
           by_lt_z j (pos 0)
           (λ last. let d = down j 1 n (omega (arith, ints, last)) in (omega (arith, ints, te, is, at, c, d, small), λ same. omega (arith, ints, from)))

@@ -58,7 +58,8 @@ record Steps (f g : ℕ → ℕ) (t u : ℕ) : Type 0 where
   falls : g t ≤ g u + 1
   rises : g u ≤ max (g t) (f u)
 
-steps : (f g : ℕ → ℕ) (n t : ℕ) → t < n → ((k : ℕ) → k < n → g k ≡ carried f (carried f 0 n) (k + 1)) → Steps f g t (next n t)
+steps : (f g : ℕ → ℕ) (n t : ℕ) → t < n → ((k : ℕ) → k < n → g k ≡ carried f (carried f 0 n) (k + 1))
+    → Steps f g t (next n t)
 steps f g n t lt is =
     let c : ℕ = carried f 0 n in
     ⊎_elim
@@ -66,7 +67,10 @@ steps f g n t lt is =
     let e : next n t ≡ t + 1 = next_inner n t inner in
     let a : g (next n t) ≡ g (t + 1) = ap g e in
     let b : f (next n t) ≡ f (t + 1) = ap f e in
-    record { falls = omega (arith, a, is t lt, is (t + 1) inner, carried_next f c (t + 1)); rises = omega (arith, a, b, is t lt, is (t + 1) inner, carried_next f c (t + 1)) })
+    record {
+      falls = omega (arith, a, is t lt, is (t + 1) inner, carried_next f c (t + 1));
+      rises = omega (arith, a, b, is t lt, is (t + 1) inner, carried_next f c (t + 1));
+    })
     (λ last.
     let e : next n t ≡ 0 = next_last n t (omega arith) in
     let a : g (next n t) ≡ g 0 = ap g e in
@@ -78,7 +82,8 @@ steps f g n t lt is =
     (cases_lt (t + 1) n)
 
 -- where a height of the second round comes from
-source : (f : ℕ → ℕ) (n t : ℕ) → t < n → (s : ℕ) × (m : ℕ) × (s < n) × ((s + m) % n ≡ t) × (carried f (carried f 0 n) (t + 1) + m ≡ f s)
+source : (f : ℕ → ℕ) (n t : ℕ) → t < n
+    → (s : ℕ) × (m : ℕ) × (s < n) × ((s + m) % n ≡ t) × (carried f (carried f 0 n) (t + 1) + m ≡ f s)
 source f n t lt =
     let c : ℕ = carried f 0 n in
     let self : t % n ≡ t = mod-eq_of_lt lt in
@@ -149,7 +154,8 @@ pub record IsSwept (n : ℕ) (f row : ℕ → ℕ) : Type 0 where
   pub slow : IsSlow n row
   pub from : ComesFrom n f row
 
-swept_from : (n : ℕ) (f a b c row : ℕ → ℕ) → IsRaised n f a → ((t : ℕ) → t < n → b t ≡ a (n - 1 - t)) → IsRaised n b c → ((t : ℕ) → t < n → row t ≡ c (n - 1 - t)) → ComesFrom n f row
+swept_from : (n : ℕ) (f a b c row : ℕ → ℕ) → IsRaised n f a → ((t : ℕ) → t < n → b t ≡ a (n - 1 - t)) → IsRaised n b c
+    → ((t : ℕ) → t < n → row t ≡ c (n - 1 - t)) → ComesFrom n f row
 swept_from n f a b c row left ba right rc t lt =
     let there : n - 1 - t < n = omega (arith, lt) in
     let w = right.from (n - 1 - t) there in
@@ -159,7 +165,8 @@ swept_from n f a b c row left ba right rc t lt =
     let back : (t + w.1) % n ≡ s = turned_ticks n w.0 t w.1 w.2 lt w.3 in
     (v.0, w.1, v.1, v.2, omega (arith, v.3, back), omega (arith, rc t lt, w.4, ba w.0 w.2, v.4))
 
-swept_slow : (n : ℕ) (f a b c row : ℕ → ℕ) → IsRaised n f a → ((t : ℕ) → t < n → b t ≡ a (n - 1 - t)) → IsRaised n b c → ((t : ℕ) → t < n → row t ≡ c (n - 1 - t)) → IsSlow n row
+swept_slow : (n : ℕ) (f a b c row : ℕ → ℕ) → IsRaised n f a → ((t : ℕ) → t < n → b t ≡ a (n - 1 - t)) → IsRaised n b c
+    → ((t : ℕ) → t < n → row t ≡ c (n - 1 - t)) → IsSlow n row
 swept_slow n f a b c row left ba right rc t lt =
     let u : ℕ = next n t in
     let u_in : u < n = next_below n t lt in
@@ -177,13 +184,15 @@ swept_slow n f a b c row left ba right rc t lt =
     let down = left.falls t lt in
     (omega (arith, rc t lt, rc u u_in, ce, be, bt, bu, rises, least, down), omega (arith, rc t lt, rc u u_in, ce, falls))
 
-swept_least : (n : ℕ) (f a b c row : ℕ → ℕ) → IsRaised n f a → ((t : ℕ) → t < n → b t ≡ a (n - 1 - t)) → IsRaised n b c → ((t : ℕ) → t < n → row t ≡ c (n - 1 - t)) → (t : ℕ) → t < n → f t ≤ row t
+swept_least : (n : ℕ) (f a b c row : ℕ → ℕ) → IsRaised n f a → ((t : ℕ) → t < n → b t ≡ a (n - 1 - t)) → IsRaised n b c
+    → ((t : ℕ) → t < n → row t ≡ c (n - 1 - t)) → (t : ℕ) → t < n → f t ≤ row t
 swept_least n f a b c row left ba right rc t lt =
     let k_in : n - 1 - t < n = omega (arith, lt) in
     let bt : b (n - 1 - t) ≡ a t = ba (n - 1 - t) k_in ∙ ap a (omega (arith, lt)) in
     omega (arith, rc t lt, bt, left.least t lt, right.least (n - 1 - t) k_in)
 
-pub swept : (n : ℕ) (f a b c row : ℕ → ℕ) → IsRaised n f a → ((t : ℕ) → t < n → b t ≡ a (n - 1 - t)) → IsRaised n b c → ((t : ℕ) → t < n → row t ≡ c (n - 1 - t)) → IsSwept n f row
+pub swept : (n : ℕ) (f a b c row : ℕ → ℕ) → IsRaised n f a → ((t : ℕ) → t < n → b t ≡ a (n - 1 - t)) → IsRaised n b c
+    → ((t : ℕ) → t < n → row t ≡ c (n - 1 - t)) → IsSwept n f row
 swept n f a b c row left ba right rc = record {
   least = swept_least n f a b c row left ba right rc;
   slow = swept_slow n f a b c row left ba right rc;
@@ -191,7 +200,8 @@ swept n f a b c row left ba right rc = record {
 }
 
 -- a slow row, n ticks on
-pub slow_far : (n : ℕ) (row : ℕ → ℕ) (t m : ℕ) → 0 < n → IsSlow n row → (row (t % n) ≤ row ((t + m) % n) + m) × (row ((t + m) % n) ≤ row (t % n) + m)
+pub slow_far : (n : ℕ) (row : ℕ → ℕ) (t m : ℕ) → 0 < n → IsSlow n row
+    → (row (t % n) ≤ row ((t + m) % n) + m) × (row ((t + m) % n) ≤ row (t % n) + m)
 slow_far n row t zero p slow =
     let e : row ((t + 0) % n) ≡ row (t % n) = ap (λ k. row (k % n)) (omega arith) in
     (omega (arith, e), omega (arith, e))

@@ -41,7 +41,8 @@ shift l p x w (c, k, u, z, f) =
     )
 
 -- the point at a tick of the period, as a fixed point there or a number of ticks away that is whole periods
-pub in_slot : (l : LineData) (p : Timetable) (h s at t m n : ℕ) → FixesSlot l p h s at → (s + n) % p.period ≡ (t + m) % p.period
+pub in_slot : (l : LineData) (p : Timetable) (h s at t m n : ℕ) → FixesSlot l p h s at
+    → (s + n) % p.period ≡ (t + m) % p.period
     → IsFixed l p (record { hoist = h; tick = pos t +ℤ pos m -ℤ pos n; at = at })
 in_slot l p h s at t m n f e =
     let a : ℕ = p.start f.c f.k + f.u in
@@ -67,7 +68,8 @@ in_slot l p h s at t m n f e =
     )
 
 -- ticks of a period and whole periods between them
-pub periods_between : (period s t m n : ℕ) → (s + n) % period ≡ (t + m) % period → (w : ℤ) × (pos s +ℤ w *ℤ pos period ≡ pos t +ℤ pos m -ℤ pos n)
+pub periods_between : (period s t m n : ℕ) → (s + n) % period ≡ (t + m) % period
+    → (w : ℤ) × (pos s +ℤ w *ℤ pos period ≡ pos t +ℤ pos m -ℤ pos n)
 periods_between period s t m n e =
     let qs : ℕ = (s + n) / period in
     let qt : ℕ = (t + m) / period in
@@ -77,11 +79,13 @@ periods_between period s t m n e =
     (pos qt -ℤ pos qs, omega (arith, ints, ds, dt, d, e))
 
 -- the tick of the period on which a fixed point falls
-pub slot_of : (l : LineData) (p : Timetable) (x : Point) → (f : IsFixed l p x) → FixesSlot l p x.hoist ((p.start f.0 f.1 + f.2) % p.period) x.at
+pub slot_of : (l : LineData) (p : Timetable) (x : Point) → (f : IsFixed l p x)
+    → FixesSlot l p x.hoist ((p.start f.0 f.1 + f.2) % p.period) x.at
 slot_of l p x (c, k, u, z, f) = record { c = c; k = k; u = u; move = f.move; within = f.within; hoist = sym f.hoist; slot = omega arith; at = f.at }
 
 -- and how many periods away
-pub turns_of : (l : LineData) (p : Timetable) (x : Point) → (f : IsFixed l p x) → (w : ℤ) × (x.tick ≡ pos ((p.start f.0 f.1 + f.2) % p.period) +ℤ w *ℤ pos p.period)
+pub turns_of : (l : LineData) (p : Timetable) (x : Point) → (f : IsFixed l p x)
+    → (w : ℤ) × (x.tick ≡ pos ((p.start f.0 f.1 + f.2) % p.period) +ℤ w *ℤ pos p.period)
 turns_of l p x (c, k, u, z, f) =
     let a : ℕ = p.start c k + u in
     let q : ℕ = a / p.period in
@@ -90,7 +94,8 @@ turns_of l p x (c, k, u, z, f) =
     (z +ℤ pos q, omega (arith, ints, f.tick, da, d))
 
 -- a slow row at two ticks that are at most d apart
-pub slow_between : (n : ℕ) (row : ℕ → ℕ) (a b d : ℕ) → 0 < n → IsSlow n row → a ≤ b + d → b ≤ a + d → row (a % n) ≤ row (b % n) + d
+pub slow_between : (n : ℕ) (row : ℕ → ℕ) (a b d : ℕ) → 0 < n → IsSlow n row → a ≤ b + d → b ≤ a + d
+    → row (a % n) ≤ row (b % n) + d
 slow_between n row a b d p slow le ge =
     ⊎_elim
     (λ lt.
@@ -102,7 +107,8 @@ slow_between n row a b d p slow le ge =
     (cases_lt a b)
 
 -- the same where the second tick is whole periods away
-pub slow_apart : (n : ℕ) (row : ℕ → ℕ) (s t : ℕ) (w : ℤ) → 0 < n → IsSlow n row → row (s % n) ≤ row (t % n) + unsigned_abs (pos s +ℤ w *ℤ pos n -ℤ pos t)
+pub slow_apart : (n : ℕ) (row : ℕ → ℕ) (s t : ℕ) (w : ℤ) → 0 < n → IsSlow n row
+    → row (s % n) ≤ row (t % n) + unsigned_abs (pos s +ℤ w *ℤ pos n -ℤ pos t)
 slow_apart n row s t w p slow =
     let m : ℕ = unsigned_abs w in
     let k : ℕ = unsigned_abs (w +ℤ pos m) in

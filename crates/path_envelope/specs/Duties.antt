@@ -40,7 +40,8 @@ IsFixed l p x = (c : ℕ) × (k : ℕ) × (u : ℕ) × (z : ℤ) × FixedBy l p 
 abbrev pub apart : Point → Point → ℕ
 apart x y = unsigned_abs (x.tick -ℤ y.tick)
 
--- a lower hoist at x and a higher one at y lack room between them, even if both travel at full speed in the ticks between
+-- a lower hoist at x and a higher one at y lack room between them, even if both travel at full speed in the ticks
+-- between
 abbrev pub LackRoom : LineData → Point → Point → Type 0
 LackRoom l x y = (x.hoist < y.hoist) × (y.at + apart x y < x.at + (y.hoist - x.hoist) * l.gap)
 

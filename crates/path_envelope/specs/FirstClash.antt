@@ -50,7 +50,8 @@ IsPartner l p x g = (z : ℤ) × Contradict l x (copy l p g z)
 abbrev pub HasPartner : LineData → Timetable → Given → Type 0
 HasPartner l p g = (other : Given) × IsGiven l p other × IsPartner l p (copy l p g (pos 0)) other
 
--- of a fixed point's copies, the one z periods later is nearest to a point, and the earlier one where two are equally near
+-- of a fixed point's copies, the one z periods later is nearest to a point, and the earlier one where two are equally
+-- near
 abbrev pub IsNearest : LineData → Timetable → Point → Given → ℤ → Type 0
 IsNearest l p x g z =
     (w : ℤ) → (apart x (copy l p g z) ≤ apart x (copy l p g w)) × (apart x (copy l p g w) ≡ apart x (copy l p g z) → z ≤ℤ w)
@@ -70,7 +71,8 @@ pub record IsFirstClash (l : LineData) (p : Timetable) (x y : Point) : Type 0 wh
   pub is : x ≡ copy l p point (pos 0)
   pub partner : IsFirstPartner l p x y
 
--- of a tick and its copies, whole periods away, the one nearest to another tick, and the earlier of two that are equally near
+-- of a tick and its copies, whole periods away, the one nearest to another tick, and the earlier of two that are
+-- equally near
 abbrev pub IsNearestTick : ℕ → ℤ → ℕ → ℤ → Type 0
 IsNearestTick period to tick result =
     (z : ℤ) × (result ≡ pos tick +ℤ z *ℤ pos period)
@@ -97,13 +99,15 @@ pub record IsFirstOfMove (l : LineData) (p : Timetable) (IsOfKind : Given → Ty
   pub given : IsGiven l p g
   pub number : number_of l g ≡ n
   pub kind : IsOfKind g
-  pub none_before : (other : Given) → IsGiven l p other → number_of l other ≡ n → other.ticks < g.ticks → IsOfKind other → ⊥
+  pub none_before : (other : Given) → IsGiven l p other → number_of l other ≡ n → other.ticks < g.ticks → IsOfKind other
+      → ⊥
 
 pub record IsFirstOfHoist (l : LineData) (p : Timetable) (IsOfKind : Given → Type 0) (h : ℕ) (g : Given) : Type 0 where
   pub given : IsGiven l p g
   pub hoist : hoist_of p g ≡ h
   pub kind : IsOfKind g
-  pub none_before : (other : Given) → IsGiven l p other → hoist_of p other ≡ h → IsBefore l p other g → IsOfKind other → ⊥
+  pub none_before : (other : Given) → IsGiven l p other → hoist_of p other ≡ h → IsBefore l p other g → IsOfKind other
+      → ⊥
 
 -- y is the copy of a fixed point that is nearest to x
 abbrev pub IsNearestCopy : LineData → Timetable → Point → Given → Point → Type 0

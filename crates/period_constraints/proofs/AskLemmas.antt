@@ -32,7 +32,8 @@ name_below c k i m small before =
     before
 
 -- and so do the names of two
-names_below : (c k c' k' i j m : ℕ) → k < m → k' < m → NamesBefore (c ∷ k ∷ c' ∷ k' ∷ []) (i / m ∷ i % m ∷ j / m ∷ j % m ∷ [])
+names_below : (c k c' k' i j m : ℕ) → k < m → k' < m
+    → NamesBefore (c ∷ k ∷ c' ∷ k' ∷ []) (i / m ∷ i % m ∷ j / m ∷ j % m ∷ [])
     → (c * m + k < i) ⊎ ((c * m + k ≡ i) × (c' * m + k' < j))
 names_below c k c' k' i j m small small' before =
     ⊎_elim (λ lt. inl (name_below c k i m small (inl lt)))
@@ -47,17 +48,20 @@ names_below c k c' k' i j m small small' before =
 pub step_below : (l : LineData) (m : MoveId) → IsMove l m.carrier m.step → m.step < last_stage l
 step_below l m there = omega (arith, there.1)
 
-open_visit_at : (l : LineData) (path : List Decision) (v : VisitId) → IsOpenVisit l path v → IsOpenVisitAt l path (v.carrier * length l.stages + v.stage)
+open_visit_at : (l : LineData) (path : List Decision) (v : VisitId) → IsOpenVisit l path v
+    → IsOpenVisitAt l path (v.carrier * length l.stages + v.stage)
 open_visit_at l path v h =
     let P : VisitId → Type 0 = λ w. IsOpenVisit l path w in
     (visit_below l v.carrier v.stage h.visit, subst P (sym (visit_named l v h.visit)) h)
 
-open_move_at : (l : LineData) (path : List Decision) (m : MoveId) → IsOpenMove l path m → IsOpenMoveAt l path (m.carrier * last_stage l + m.step)
+open_move_at : (l : LineData) (path : List Decision) (m : MoveId) → IsOpenMove l path m
+    → IsOpenMoveAt l path (m.carrier * last_stage l + m.step)
 open_move_at l path m h =
     let P : MoveId → Type 0 = λ w. IsOpenMove l path w in
     (move_below l m.carrier m.step h.move, subst P (sym (move_named l m h.move)) h)
 
-tank_at : (l : LineData) (path : List Decision) (s : ℕ → ℤ) (period : ℕ) (a b : VisitId) (q : ℤ) → IsAsked l path s period (TankOrder a b q)
+tank_at : (l : LineData) (path : List Decision) (s : ℕ → ℤ) (period : ℕ) (a b : VisitId) (q : ℤ)
+    → IsAsked l path s period (TankOrder a b q)
     → IsAskedTank l path s period (a.carrier * length l.stages + a.stage) (b.carrier * length l.stages + b.stage) q
 tank_at l path s period a b q h =
     let share = h.stands in
@@ -69,7 +73,8 @@ tank_at l path s period a b q h =
       asked = subst P2 (sym (visit_named l b share.second)) (subst P1 (sym (visit_named l a share.first)) h);
     }
 
-hoist_at : (l : LineData) (path : List Decision) (s : ℕ → ℤ) (period : ℕ) (a b : MoveId) (q : ℤ) → IsAsked l path s period (HoistOrder a b q)
+hoist_at : (l : LineData) (path : List Decision) (s : ℕ → ℤ) (period : ℕ) (a b : MoveId) (q : ℤ)
+    → IsAsked l path s period (HoistOrder a b q)
     → IsAskedHoist l path s period (a.carrier * last_stage l + a.step) (b.carrier * last_stage l + b.step) q
 hoist_at l path s period a b q h =
     let clash = h.stands in
@@ -116,14 +121,16 @@ first_choice l path s period i v is first =
 
 pub first_tank_order : (l : LineData) (path : List Decision) (s : ℕ → ℤ) (period : ℕ) (x : Pair) (a b : VisitId) (q : ℤ)
     → a ≡ visit_at l x.first → b ≡ visit_at l x.second → q ≡ x.shift → unsigned_abs x.shift ≤ 1000000000
-    → NoChoice l path → IsFirstPair (IsAskedTank l path s period) (Some x) → IsFirstQuestion l path s period (Some (TankOrder a b q))
+    → NoChoice l path → IsFirstPair (IsAskedTank l path s period) (Some x)
+    → IsFirstQuestion l path s period (Some (TankOrder a b q))
 first_tank_order l path s period x a b q is_a is_b is_q small none first =
     let Q1 : VisitId → Type 0 = λ w. IsFirstQuestion l path s period (Some (TankOrder w b q)) in
     let Q2 : VisitId → Type 0 = λ w. IsFirstQuestion l path s period (Some (TankOrder (visit_at l x.first) w q)) in
     let Q3 : ℤ → Type 0 = λ z. IsFirstQuestion l path s period (Some (TankOrder (visit_at l x.first) (visit_at l x.second) z)) in
     subst Q1 (sym is_a) (subst Q2 (sym is_b) (subst Q3 (sym is_q) (record { stands = first.0.asked.stands; small = small }, first.0.asked.fails, never)))
   where
-    never : (y : Question) → IsAsked l path s period y → ComesBefore y (TankOrder (visit_at l x.first) (visit_at l x.second) x.shift) → ⊥
+    never : (y : Question) → IsAsked l path s period y
+        → ComesBefore y (TankOrder (visit_at l x.first) (visit_at l x.second) x.shift) → ⊥
     never (Choose w) h before = none (w.carrier * length l.stages + w.stage) (open_visit_at l path w h.stands)
     never (TankOrder c d r) h before =
         let m = length l.stages in
@@ -157,7 +164,8 @@ first_hoist_order l path s period x a b q is_a is_b is_q small none no_tank firs
     let Q3 : ℤ → Type 0 = λ z. IsFirstQuestion l path s period (Some (HoistOrder (move_at l x.first) (move_at l x.second) z)) in
     subst Q1 (sym is_a) (subst Q2 (sym is_b) (subst Q3 (sym is_q) (record { stands = first.0.asked.stands; small = small }, first.0.asked.fails, never)))
   where
-    never : (y : Question) → IsAsked l path s period y → ComesBefore y (HoistOrder (move_at l x.first) (move_at l x.second) x.shift) → ⊥
+    never : (y : Question) → IsAsked l path s period y
+        → ComesBefore y (HoistOrder (move_at l x.first) (move_at l x.second) x.shift) → ⊥
     never (Choose w) h before = none (w.carrier * length l.stages + w.stage) (open_visit_at l path w h.stands)
     never (TankOrder c d r) h before = no_tank (c.carrier * length l.stages + c.stage) (d.carrier * length l.stages + d.stage) r
         (tank_at l path s period c d r h)
@@ -183,7 +191,8 @@ first_hoist_order l path s period x a b q is_a is_b is_q small none no_tank firs
     never (Assign m) h before = ⊎_elim (λ lt. omega (arith, lt)) (λ same. omega (arith, same.0)) before
 
 pub first_assign : (l : LineData) (path : List Decision) (s : ℕ → ℤ) (period i : ℕ) (m : MoveId) → m ≡ move_at l i
-    → NoChoice l path → NoTankOrder l path s period → NoHoistOrder l path s period → IsFirstNumber (IsOpenMoveAt l path) (Some i)
+    → NoChoice l path → NoTankOrder l path s period → NoHoistOrder l path s period
+    → IsFirstNumber (IsOpenMoveAt l path) (Some i)
     → IsFirstQuestion l path s period (Some (Assign m))
 first_assign l path s period i m is none no_tank no_hoist first =
     let Q : MoveId → Type 0 = λ w. IsFirstQuestion l path s period (Some (Assign w)) in
@@ -203,7 +212,8 @@ first_assign l path s period i m is none no_tank no_hoist first =
         (λ later. omega (arith, ints, later.1)) same.1)
         before
 
-pub no_question : (l : LineData) (path : List Decision) (s : ℕ → ℤ) (period : ℕ) → NoChoice l path → NoTankOrder l path s period → NoHoistOrder l path s period
+pub no_question : (l : LineData) (path : List Decision) (s : ℕ → ℤ) (period : ℕ) → NoChoice l path
+    → NoTankOrder l path s period → NoHoistOrder l path s period
     → NoAssign l path
     → IsFirstQuestion l path s period None
 no_question l path s period none no_tank no_hoist no_assign (Choose w) h = none (w.carrier * length l.stages + w.stage) (open_visit_at l path w h.stands)

@@ -30,9 +30,11 @@ get_end (x ∷ xs) y d (suc k) lt = ⊎_elim (λ h. inl (omega (arith, h.0), h.1
 abbrev no_span : Option Span
 no_span = None
 
-pub spans_more : (l : LineData) (rides : List Ride) (spans new : List (Option Span)) (y : Option Span) (place : ℕ) → length spans ≡ place
+pub spans_more : (l : LineData) (rides : List Ride) (spans new : List (Option Span)) (y : Option Span) (place : ℕ)
+    → length spans ≡ place
     → new ≡ spans ++ y ∷ []
-    → y ≡ clash_between l (ride_in rides (place / length rides)) (ride_in rides (place % length rides)) → IfSome y IsTight → AreSpans l rides spans
+    → y ≡ clash_between l (ride_in rides (place / length rides)) (ride_in rides (place % length rides))
+    → IfSome y IsTight → AreSpans l rides spans
     → AreSpans l rides new
 spans_more l rides spans new y place count is clash tight h =
     let P : List (Option Span) → Type 0 = λ xs. AreSpans l rides xs in
@@ -45,7 +47,8 @@ spans_more l rides spans new y place count is clash tight h =
           ⊎_elim (λ old. subst T (sym old.1) (h.tight k old.0)) (λ last. subst T (sym last.1) tight) (get_end spans y no_span k lt);
     })
 
-pub whole_table : (l : LineData) (rides : List Ride) (spans : List (Option Span)) → AreRides l rides → length spans ≡ length rides * length rides
+pub whole_table : (l : LineData) (rides : List Ride) (spans : List (Option Span)) → AreRides l rides
+    → length spans ≡ length rides * length rides
     → AreSpans l rides spans → IsTable l rides spans
 whole_table l rides spans are count h = record {
   few = are.few;

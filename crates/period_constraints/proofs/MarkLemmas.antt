@@ -37,7 +37,8 @@ choice_here v child =
     ap (λ (b : Bool). cond (b && (v.stage == v.stage)) (Some child) None) (eq-eqb v.carrier v.carrier refl) ∙ ap (λ (b : Bool). cond b (Some child) None)
     (eq-eqb v.stage v.stage refl)
 
-choice_new : (l : LineData) (path : List Decision) (i : ℕ) (v : VisitId) → FitsPath l path → i < length path → (decision_at path i).question ≡ Choose v
+choice_new : (l : LineData) (path : List Decision) (i : ℕ) (v : VisitId) → FitsPath l path → i < length path
+    → (decision_at path i).question ≡ Choose v
     → choice_of (take (i + 1) path) v.carrier v.stage ≡ Some (decision_at path i).child
 choice_new l path i v fits lt is =
     let d = decision_at path i in
@@ -47,9 +48,11 @@ choice_new l path i v fits lt is =
     ∙ ap (λ (o : Option ℕ). option_or o (option_or (choice_by v.carrier v.stage d.question d.child) None)) open_visit.stands.open_yet
     ∙ or_none (choice_by v.carrier v.stage d.question d.child) ∙ ap (λ (q : Question). choice_by v.carrier v.stage q d.child) is ∙ choice_here v d.child
 
-pub choice_noted : (l : LineData) (path : List Decision) (i : ℕ) (v : VisitId) (n : ℕ) (xs : List (Option ℕ)) → FitsPath l path → i < length path
+pub choice_noted : (l : LineData) (path : List Decision) (i : ℕ) (v : VisitId) (n : ℕ) (xs : List (Option ℕ))
+    → FitsPath l path → i < length path
     → (decision_at path i).question ≡ Choose v
-    → n ≡ v.carrier * length l.stages + v.stage → AreChoices l (take i path) xs → AreChoices l (take (i + 1) path) (set xs n (Some (decision_at path i).child))
+    → n ≡ v.carrier * length l.stages + v.stage → AreChoices l (take i path) xs
+    → AreChoices l (take (i + 1) path) (set xs n (Some (decision_at path i).child))
 choice_noted l path i v n xs fits lt is number h =
     let m = length l.stages in
     let d = decision_at path i in
@@ -70,7 +73,8 @@ choice_noted l path i v n xs fits lt is number h =
     )
 
 pub choices_stay : (l : LineData) (path : List Decision) (i : ℕ) (xs : List (Option ℕ)) → i < length path
-    → ((c k : ℕ) → choice_by c k (decision_at path i).question (decision_at path i).child ≡ None) → AreChoices l (take i path) xs
+    → ((c k : ℕ) → choice_by c k (decision_at path i).question (decision_at path i).child ≡ None)
+    → AreChoices l (take i path) xs
     → AreChoices l (take (i + 1) path) xs
 choices_stay l path i xs lt none h = (
   h.0,
@@ -85,17 +89,20 @@ assigned_here m child =
     ap (λ (b : Bool). cond (b && (m.step == m.step)) (Some child) None) (eq-eqb m.carrier m.carrier refl) ∙ ap (λ (b : Bool). cond b (Some child) None)
     (eq-eqb m.step m.step refl)
 
-not_assigned_at : (m : MoveId) (c k child : ℕ) → ((m.carrier ≡ c) × (m.step ≡ k) → ⊥) → assigned_by c k (Assign m) child ≡ None
+not_assigned_at : (m : MoveId) (c k child : ℕ) → ((m.carrier ≡ c) × (m.step ≡ k) → ⊥)
+    → assigned_by c k (Assign m) child ≡ None
 not_assigned_at m c k child other = no_choice_at (record { carrier = m.carrier; stage = m.step }) c k child other
 
-assigned_more : (path : List Decision) (i c k : ℕ) → i < length path → assigned_by c k (decision_at path i).question (decision_at path i).child ≡ None
+assigned_more : (path : List Decision) (i c k : ℕ) → i < length path
+    → assigned_by c k (decision_at path i).question (decision_at path i).child ≡ None
     → assigned_of (take (i + 1) path) c k ≡ assigned_of (take i path) c k
 assigned_more path i c k lt none =
     let d = decision_at path i in
     ap (λ (ds : List Decision). assigned_of ds c k) (take_more path i no_decision lt) ∙ assigned-append (take i path) (d ∷ []) c k
     ∙ ap (λ (o : Option ℕ). option_or (assigned_of (take i path) c k) (option_or o None)) none ∙ or_none (assigned_of (take i path) c k)
 
-assigned_new : (l : LineData) (path : List Decision) (i : ℕ) (m : MoveId) → FitsPath l path → i < length path → (decision_at path i).question ≡ Assign m
+assigned_new : (l : LineData) (path : List Decision) (i : ℕ) (m : MoveId) → FitsPath l path → i < length path
+    → (decision_at path i).question ≡ Assign m
     → assigned_of (take (i + 1) path) m.carrier m.step ≡ Some (decision_at path i).child
 assigned_new l path i m fits lt is =
     let d = decision_at path i in
@@ -105,9 +112,11 @@ assigned_new l path i m fits lt is =
     ∙ ap (λ (o : Option ℕ). option_or o (option_or (assigned_by m.carrier m.step d.question d.child) None)) open_move.stands.open_yet
     ∙ or_none (assigned_by m.carrier m.step d.question d.child) ∙ ap (λ (q : Question). assigned_by m.carrier m.step q d.child) is ∙ assigned_here m d.child
 
-pub assigned_noted : (l : LineData) (path : List Decision) (i : ℕ) (m : MoveId) (n : ℕ) (xs : List (Option ℕ)) → FitsPath l path → i < length path
+pub assigned_noted : (l : LineData) (path : List Decision) (i : ℕ) (m : MoveId) (n : ℕ) (xs : List (Option ℕ))
+    → FitsPath l path → i < length path
     → (decision_at path i).question ≡ Assign m
-    → n ≡ m.carrier * last_stage l + m.step → AreAssigned l (take i path) xs → AreAssigned l (take (i + 1) path) (set xs n (Some (decision_at path i).child))
+    → n ≡ m.carrier * last_stage l + m.step → AreAssigned l (take i path) xs
+    → AreAssigned l (take (i + 1) path) (set xs n (Some (decision_at path i).child))
 assigned_noted l path i m n xs fits lt is number h =
     let s = last_stage l in
     let d = decision_at path i in
@@ -130,7 +139,8 @@ assigned_noted l path i m n xs fits lt is number h =
     )
 
 pub assigned_stay : (l : LineData) (path : List Decision) (i : ℕ) (xs : List (Option ℕ)) → i < length path
-    → ((c k : ℕ) → assigned_by c k (decision_at path i).question (decision_at path i).child ≡ None) → AreAssigned l (take i path) xs
+    → ((c k : ℕ) → assigned_by c k (decision_at path i).question (decision_at path i).child ≡ None)
+    → AreAssigned l (take i path) xs
     → AreAssigned l (take (i + 1) path) xs
 assigned_stay l path i xs lt none h = (
   h.0,
@@ -145,7 +155,8 @@ choice_other (TankOrder a b q) other c k child = refl
 choice_other (HoistOrder a b q) other c k child = refl
 choice_other (Choose v) other c k child = absurd (other v refl)
 
-pub assigned_other : (q : Question) → ((m : MoveId) → q ≡ Assign m → ⊥) → (c k child : ℕ) → assigned_by c k q child ≡ None
+pub assigned_other : (q : Question) → ((m : MoveId) → q ≡ Assign m → ⊥) → (c k child : ℕ)
+    → assigned_by c k q child ≡ None
 assigned_other (Assign m) other c k child = absurd (other m refl)
 assigned_other (TankOrder a b q) other c k child = refl
 assigned_other (HoistOrder a b q) other c k child = refl

@@ -8,7 +8,8 @@ use Rattle.period_constraints.specs.Pairs.{Pair, IsFirstShift, IsFirstPair}
 
 -- ---- the first shift of what says the same
 
-pub shift_same : (P Q : ℤ → Type 0) (o : Option ℤ) → ((q : ℤ) → P q → Q q) → ((q : ℤ) → Q q → P q) → IsFirstShift P o → IsFirstShift Q o
+pub shift_same : (P Q : ℤ → Type 0) (o : Option ℤ) → ((q : ℤ) → P q → Q q) → ((q : ℤ) → Q q → P q) → IsFirstShift P o
+    → IsFirstShift Q o
 shift_same P Q None to from none = λ q h. none q (from q h)
 shift_same P Q (Some n) to from first = (to n first.0, λ q lt h. first.1 q lt (from q h))
 
@@ -62,12 +63,14 @@ row_more P i j none here k q lt h =
     ⊎_elim (λ e. here q (let S : ℕ → Type 0 = λ n. P i n q in subst S e h)) (λ rest. ⊎_elim (λ less. none k q less h) (λ more. omega (arith, more, lt)) rest)
     (cases_order k j)
 
-pub row_none : (P : ℕ → ℕ → ℤ → Type 0) (i n : ℕ) → ((k j : ℕ) (q : ℤ) → P k j q → j < n) → NoneInRow P i n → (k j : ℕ) (q : ℤ) → InRow P i k j q → ⊥
+pub row_none : (P : ℕ → ℕ → ℤ → Type 0) (i n : ℕ) → ((k j : ℕ) (q : ℤ) → P k j q → j < n) → NoneInRow P i n
+    → (k j : ℕ) (q : ℤ) → InRow P i k j q → ⊥
 row_none P i n within none k j q h =
     let here : P i j q = let S : ℕ → Type 0 = λ m. P m j q in subst S h.0 h.1 in
     none j q (within i j q here) here
 
-pub rows_found : (P : ℕ → ℕ → ℤ → Type 0) (i : ℕ) (o : Option Pair) → NoneInRows P i → IsFirstPair (InRow P i) o → IsSome o → IsFirstPair P o
+pub rows_found : (P : ℕ → ℕ → ℤ → Type 0) (i : ℕ) (o : Option Pair) → NoneInRows P i → IsFirstPair (InRow P i) o
+    → IsSome o → IsFirstPair P o
 rows_found P i None none first some = cc
 rows_found P i (Some x) none first some = (
   first.0.1,
@@ -77,10 +80,12 @@ rows_found P i (Some x) none first some = (
       earlier,
 )
 
-pub rows_more : (P : ℕ → ℕ → ℤ → Type 0) (i : ℕ) (o : Option Pair) → NoneInRows P i → IsFirstPair (InRow P i) o → (IsSome o → ⊥) → NoneInRows P (i + 1)
+pub rows_more : (P : ℕ → ℕ → ℤ → Type 0) (i : ℕ) (o : Option Pair) → NoneInRows P i → IsFirstPair (InRow P i) o
+    → (IsSome o → ⊥) → NoneInRows P (i + 1)
 rows_more P i None none first empty k j q lt h =
     ⊎_elim (λ e. first k j q (e, h)) (λ rest. ⊎_elim (λ less. none k j q less h) (λ more. omega (arith, more, lt)) rest) (cases_order k i)
 rows_more P i (Some x) none first empty k j q lt h = empty refl
 
-pub rows_none : (P : ℕ → ℕ → ℤ → Type 0) (n : ℕ) → ((k j : ℕ) (q : ℤ) → P k j q → k < n) → NoneInRows P n → (k j : ℕ) (q : ℤ) → P k j q → ⊥
+pub rows_none : (P : ℕ → ℕ → ℤ → Type 0) (n : ℕ) → ((k j : ℕ) (q : ℤ) → P k j q → k < n) → NoneInRows P n
+    → (k j : ℕ) (q : ℤ) → P k j q → ⊥
 rows_none P n within none k j q h = none k j q (within k j q h) h

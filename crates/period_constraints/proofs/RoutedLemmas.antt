@@ -34,7 +34,8 @@ use Rattle.path_constraints.proofs.TankLemmas.{choice_there, tank_there}
 
 -- ---- ticks
 
-pub all_near : (l : LineData) (path : List Decision) (s : ℕ → ℤ) (period : ℕ) → IsLine l → Solves (system_below l path) period s → period ≤ 20001 → AreNear l s
+pub all_near : (l : LineData) (path : List Decision) (s : ℕ → ℤ) (period : ℕ) → IsLine l
+    → Solves (system_below l path) period s → period ≤ 20001 → AreNear l s
 all_near l path s period line solves few i lt =
     let keeps = keeps_all l path s period line solves in
     let here = move_there l i line lt in
@@ -48,25 +49,29 @@ all_near l path s period line solves few i lt =
 -- ---- tanks
 
 -- the number of a choice is one of its stage's
-place_there : (l : LineData) (path : List Decision) (c k : ℕ) (o : Option ℕ) → IsLine l → FitsPath l path → IsVisit l c k → o ≡ choice_of path c k
+place_there : (l : LineData) (path : List Decision) (c k : ℕ) (o : Option ℕ) → IsLine l → FitsPath l path
+    → IsVisit l c k → o ≡ choice_of path c k
     → unwrap_or o 0 < length (stage l k).tanks
 place_there l path c k None line fits visit is = omega (arith, (line.stages.count k visit.1).0)
 place_there l path c k (Some n) line fits visit is = choice_there l path c k n fits (sym is)
 
-pub have_tanks : (l : LineData) (path : List Decision) (choices : List (Option ℕ)) → IsLine l → FitsPath l path → AreChoices l path choices
+pub have_tanks : (l : LineData) (path : List Decision) (choices : List (Option ℕ)) → IsLine l → FitsPath l path
+    → AreChoices l path choices
     → HaveTanks l choices
 have_tanks l path choices line fits h = record {
   room = h.0;
   there = λ i lt. place_there l path (visit_at l i).carrier (visit_at l i).stage (get_or choices i None) line fits (visit_there l i line lt) (h.1 i lt);
 }
 
-pub routed : (l : LineData) (choices : List (Option ℕ)) (tanks : List ℕ) → IsLine l → HaveTanks l choices → AreChosen l choices tanks → AreRouted l tanks
+pub routed : (l : LineData) (choices : List (Option ℕ)) (tanks : List ℕ) → IsLine l → HaveTanks l choices
+    → AreChosen l choices tanks → AreRouted l tanks
 routed l choices tanks line have h = record {
   room = h.room;
   there = λ i lt. omega (arith, h.each i lt, tank_there l (visit_at l i).stage (place_by choices i) line (have.there i lt));
 }
 
-open_by : (l : LineData) (path : List Decision) (choices : List (Option ℕ)) → IsLine l → AreChoices l path choices → (i : ℕ) → IsOpenByChoices l choices i
+open_by : (l : LineData) (path : List Decision) (choices : List (Option ℕ)) → IsLine l → AreChoices l path choices
+    → (i : ℕ) → IsOpenByChoices l choices i
     → IsOpenVisitAt l path i
 open_by l path choices line h i open_at = (
   open_at.0,
@@ -78,7 +83,8 @@ open_by l path choices line h i open_at = (
   },
 )
 
-open_at : (l : LineData) (path : List Decision) (choices : List (Option ℕ)) → AreChoices l path choices → (i : ℕ) → IsOpenVisitAt l path i
+open_at : (l : LineData) (path : List Decision) (choices : List (Option ℕ)) → AreChoices l path choices → (i : ℕ)
+    → IsOpenVisitAt l path i
     → IsOpenByChoices l choices i
 open_at l path choices h i x = (x.0, x.1.several, h.1 i x.0 ∙ x.1.open_yet)
 
@@ -86,7 +92,8 @@ open_at l path choices h i x = (x.0, x.1.several, h.1 i x.0 ∙ x.1.open_yet)
 pub record AreSettled (l : LineData) (path : List Decision) (tanks : List ℕ) : Type 0 where
   pub only : (c k : ℕ) → IsVisit l c k → tank_below l path c k ≡ Some (get_or tanks (c * length l.stages + k) 0)
 
-settled_at : (l : LineData) (path : List Decision) (choices : List (Option ℕ)) (tanks : List ℕ) (i : ℕ) → IsLine l → AreChoices l path choices
+settled_at : (l : LineData) (path : List Decision) (choices : List (Option ℕ)) (tanks : List ℕ) (i : ℕ) → IsLine l
+    → AreChoices l path choices
     → AreChosen l choices tanks
     → IsFirstNumber (IsOpenByChoices l choices) None → i < visit_count l
     → tank_below l path (visit_at l i).carrier (visit_at l i).stage ≡ Some (get_or tanks i 0)
@@ -100,7 +107,8 @@ settled_at l path choices tanks i line marks chosen none lt =
     (λ e. ⊎_elim (λ few. few) (λ many. absurd (none i (lt, many, e))) (cases_lt (length ts) 2))
     ∙ ap (λ (n : ℕ). Some n) (sym (chosen.each i lt))
 
-pub settled : (l : LineData) (path : List Decision) (choices : List (Option ℕ)) (tanks : List ℕ) → IsLine l → AreChoices l path choices
+pub settled : (l : LineData) (path : List Decision) (choices : List (Option ℕ)) (tanks : List ℕ) → IsLine l
+    → AreChoices l path choices
     → AreChosen l choices tanks
     → IsFirstNumber (IsOpenByChoices l choices) None → AreSettled l path tanks
 settled l path choices tanks line marks chosen none = record {
@@ -115,25 +123,29 @@ settled l path choices tanks line marks chosen none = record {
 
 -- ---- durations and motions
 
-pub motion_settled : (l : LineData) (path : List Decision) (tanks : List ℕ) (c k : ℕ) → AreSettled l path tanks → IsMove l c k
+pub motion_settled : (l : LineData) (path : List Decision) (tanks : List ℕ) (c k : ℕ) → AreSettled l path tanks
+    → IsMove l c k
     → motion_below l path c k ≡ Some (motion_by l tanks c k)
 motion_settled l path tanks c k h move =
     motion_is l path c k (get_or tanks (c * length l.stages + k) 0) (get_or tanks (c * length l.stages + (k + 1)) 0)
     (h.only c k (move.0, omega (arith, move.1))) (h.only c (k + 1) move)
 
-pub low_settled : (l : LineData) (path : List Decision) (tanks : List ℕ) (c k : ℕ) → AreSettled l path tanks → IsMove l c k
+pub low_settled : (l : LineData) (path : List Decision) (tanks : List ℕ) (c k : ℕ) → AreSettled l path tanks
+    → IsMove l c k
     → low l path c k ≡ lasting l tanks c k
 low_settled l path tanks c k h move =
     low_is l path c k (get_or tanks (c * length l.stages + k) 0) (get_or tanks (c * length l.stages + (k + 1)) 0)
     (h.only c k (move.0, omega (arith, move.1))) (h.only c (k + 1) move)
 
-pub begin_settled : (l : LineData) (path : List Decision) (tanks : List ℕ) (v : VisitId) → AreSettled l path tanks → IsVisit l v.carrier v.stage
+pub begin_settled : (l : LineData) (path : List Decision) (tanks : List ℕ) (v : VisitId) → AreSettled l path tanks
+    → IsVisit l v.carrier v.stage
     → begin_of l (low l path) v.carrier v.stage ≡ begin_of l (lasting l tanks) v.carrier v.stage
 begin_settled l path tanks v h visit =
     begin_same l (low l path) (lasting l tanks) v.carrier v.stage
     (λ some. low_settled l path tanks v.carrier (v.stage - 1) h (visit.0, omega (arith, visit.1, some)))
 
-pub end_settled : (l : LineData) (path : List Decision) (tanks : List ℕ) (v : VisitId) → IsLine l → AreSettled l path tanks → IsVisit l v.carrier v.stage
+pub end_settled : (l : LineData) (path : List Decision) (tanks : List ℕ) (v : VisitId) → IsLine l
+    → AreSettled l path tanks → IsVisit l v.carrier v.stage
     → end_of l (low l path) v.carrier v.stage ≡ end_of l (lasting l tanks) v.carrier v.stage
 end_settled l path tanks v line h visit =
     end_same l (low l path) (lasting l tanks) v.carrier v.stage
@@ -142,7 +154,8 @@ end_settled l path tanks v line h visit =
 -- ---- what is asked
 
 -- hold and ask in the two ways of reckoning
-to_asked_tank : (l : LineData) (path : List Decision) (tanks : List ℕ) (s : ℕ → ℤ) (period i j : ℕ) (q : ℤ) → IsLine l → AreSettled l path tanks
+to_asked_tank : (l : LineData) (path : List Decision) (tanks : List ℕ) (s : ℕ → ℤ) (period i j : ℕ) (q : ℤ) → IsLine l
+    → AreSettled l path tanks
     → HoldOneTank l tanks s period i j q → IsAskedTank l path s period i j q
 to_asked_tank l path tanks s period i j q line h hold =
     let m = length l.stages in
@@ -179,10 +192,12 @@ to_asked_tank l path tanks s period i j q line h hold =
       };
     }
   where
-    has_tank : (l : LineData) (path : List Decision) (tanks : List ℕ) (c k : ℕ) → AreSettled l path tanks → IsVisit l c k → IsSome (tank_below l path c k)
+    has_tank : (l : LineData) (path : List Decision) (tanks : List ℕ) (c k : ℕ) → AreSettled l path tanks
+        → IsVisit l c k → IsSome (tank_below l path c k)
     has_tank l path tanks c k h there = rw (h.only c k there) refl
 
-from_asked_tank : (l : LineData) (path : List Decision) (tanks : List ℕ) (s : ℕ → ℤ) (period i j : ℕ) (q : ℤ) → IsLine l → AreSettled l path tanks
+from_asked_tank : (l : LineData) (path : List Decision) (tanks : List ℕ) (s : ℕ → ℤ) (period i j : ℕ) (q : ℤ) → IsLine l
+    → AreSettled l path tanks
     → IsAskedTank l path s period i j q → HoldOneTank l tanks s period i j q
 from_asked_tank l path tanks s period i j q line h x =
     let m = length l.stages in
@@ -210,7 +225,8 @@ from_asked_tank l path tanks s period i j q line h x =
       together = (omega (arith, ints, x.asked.fails.0, bb, ea), omega (arith, ints, x.asked.fails.1, ba, eb));
     }
 
-pub tanks_asked : (l : LineData) (path : List Decision) (tanks : List ℕ) (s : ℕ → ℤ) (period : ℕ) (o : Option Pair) → IsLine l → AreSettled l path tanks
+pub tanks_asked : (l : LineData) (path : List Decision) (tanks : List ℕ) (s : ℕ → ℤ) (period : ℕ) (o : Option Pair)
+    → IsLine l → AreSettled l path tanks
     → IsFirstPair (HoldOneTank l tanks s period) o → IsFirstPair (IsAskedTank l path s period) o
 tanks_asked l path tanks s period o line h first =
     pair_same (HoldOneTank l tanks s period) (IsAskedTank l path s period) o (λ i j q x. to_asked_tank l path tanks s period i j q line h x)
@@ -218,7 +234,8 @@ tanks_asked l path tanks s period o line h first =
 
 -- ---- rides
 
-ride_settled : (l : LineData) (path : List Decision) (tanks : List ℕ) (assigned : List (Option ℕ)) (i : ℕ) → IsLine l → AreSettled l path tanks
+ride_settled : (l : LineData) (path : List Decision) (tanks : List ℕ) (assigned : List (Option ℕ)) (i : ℕ) → IsLine l
+    → AreSettled l path tanks
     → AreAssigned l path assigned → i < move_count l
     → ride_by l tanks (get_or assigned i None) (move_at l i).carrier (move_at l i).step ≡ ride_below l path (move_at l i).carrier (move_at l i).step
 ride_settled l path tanks assigned i line h marks lt =
@@ -232,7 +249,8 @@ ride_settled l path tanks assigned i line h marks lt =
     the_ride_of : Motion → ℕ → Ride
     the_ride_of m n = record { motion = m; hoist = n }
 
-to_asked_hoist : (l : LineData) (path : List Decision) (tanks : List ℕ) (assigned : List (Option ℕ)) (s : ℕ → ℤ) (period i j : ℕ) (q : ℤ) → IsLine l
+to_asked_hoist : (l : LineData) (path : List Decision) (tanks : List ℕ) (assigned : List (Option ℕ)) (s : ℕ → ℤ) (period i j : ℕ) (q : ℤ)
+    → IsLine l
     → AreSettled l path tanks → AreAssigned l path assigned
     → ClashByRides l tanks assigned s period i j q → IsAskedHoist l path s period i j q
 to_asked_hoist l path tanks assigned s period i j q line h marks x =
@@ -264,7 +282,8 @@ to_asked_hoist l path tanks assigned s period i j q line h marks x =
     some_if None R r = absurd r
     some_if (Some z) R r = refl
 
-from_asked_hoist : (l : LineData) (path : List Decision) (tanks : List ℕ) (assigned : List (Option ℕ)) (s : ℕ → ℤ) (period i j : ℕ) (q : ℤ) → IsLine l
+from_asked_hoist : (l : LineData) (path : List Decision) (tanks : List ℕ) (assigned : List (Option ℕ)) (s : ℕ → ℤ) (period i j : ℕ) (q : ℤ)
+    → IsLine l
     → AreSettled l path tanks → AreAssigned l path assigned
     → IsAskedHoist l path s period i j q → ClashByRides l tanks assigned s period i j q
 from_asked_hoist l path tanks assigned s period i j q line h marks x =
@@ -280,7 +299,8 @@ from_asked_hoist l path tanks assigned s period i j q line h marks x =
     let fails : Q (ride_below l path b.carrier b.step) = x.asked.fails in
     record { before = x.before; there = x.there; clash = subst P (sym ride_a) (subst Q (sym ride_b) fails) }
 
-pub hoists_asked : (l : LineData) (path : List Decision) (tanks : List ℕ) (assigned : List (Option ℕ)) (s : ℕ → ℤ) (period : ℕ) (o : Option Pair) → IsLine l
+pub hoists_asked : (l : LineData) (path : List Decision) (tanks : List ℕ) (assigned : List (Option ℕ)) (s : ℕ → ℤ) (period : ℕ) (o : Option Pair)
+    → IsLine l
     → AreSettled l path tanks → AreAssigned l path assigned
     → IsFirstPair (ClashByRides l tanks assigned s period) o → IsFirstPair (IsAskedHoist l path s period) o
 hoists_asked l path tanks assigned s period o line h marks first =
@@ -290,7 +310,8 @@ hoists_asked l path tanks assigned s period o line h marks first =
 
 -- ---- moves without a hoist
 
-pub moves_asked : (l : LineData) (path : List Decision) (tanks : List ℕ) (assigned : List (Option ℕ)) (o : Option ℕ) → IsLine l → AreSettled l path tanks
+pub moves_asked : (l : LineData) (path : List Decision) (tanks : List ℕ) (assigned : List (Option ℕ)) (o : Option ℕ)
+    → IsLine l → AreSettled l path tanks
     → AreAssigned l path assigned
     → IsFirstNumber (IsUnassigned l tanks assigned) o → IsFirstNumber (IsOpenMoveAt l path) o
 moves_asked l path tanks assigned o line h marks first =
@@ -315,7 +336,8 @@ moves_asked l path tanks assigned o line h marks first =
     record { there = x.0; none = marks.1 i x.0 ∙ x.1.open_yet; several = subst P is x.1.several })
     first
 
-pub visits_asked : (l : LineData) (path : List Decision) (choices : List (Option ℕ)) (o : Option ℕ) → IsLine l → AreChoices l path choices
+pub visits_asked : (l : LineData) (path : List Decision) (choices : List (Option ℕ)) (o : Option ℕ) → IsLine l
+    → AreChoices l path choices
     → IsFirstNumber (IsOpenByChoices l choices) o → IsFirstNumber (IsOpenVisitAt l path) o
 visits_asked l path choices o line marks first =
     number_same (IsOpenByChoices l choices) (IsOpenVisitAt l path) o (open_by l path choices line marks) (open_at l path choices marks) first

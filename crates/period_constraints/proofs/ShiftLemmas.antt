@@ -45,7 +45,8 @@ next_least x t q r next above =
 
 -- ---- the first number of periods strictly between two numbers
 
-pub shift_small : (low : ℤ) (t : ℕ) (q : ℤ) → q ≡ int_div_euclid low (pos t) +ℤ pos 1 → unsigned_abs q ≤ unsigned_abs low + 1
+pub shift_small : (low : ℤ) (t : ℕ) (q : ℤ) → q ≡ int_div_euclid low (pos t) +ℤ pos 1
+    → unsigned_abs q ≤ unsigned_abs low + 1
 shift_small (pos a) t q is = omega (arith, ints, is, div-le_self a t)
 shift_small (negsuc a) t q is = omega (arith, ints, is, div-le_self a t)
 
@@ -54,7 +55,8 @@ pub shift_first : (low high : ℤ) (t : ℕ) (q : ℤ) → IsNextShift low t q �
 shift_first low high t q next under =
     ((next.above, under), λ r lt between. omega (arith, ints, lt, next_least low t q r next between.0))
 
-pub shift_none : (low high : ℤ) (t : ℕ) (q r : ℤ) → IsNextShift low t q → ((q *ℤ pos t) <ℤ high → ⊥) → IsBetween low high t r → ⊥
+pub shift_none : (low high : ℤ) (t : ℕ) (q r : ℤ) → IsNextShift low t q → ((q *ℤ pos t) <ℤ high → ⊥)
+    → IsBetween low high t r → ⊥
 shift_none low high t q r next over between =
     by_lt_z (q *ℤ pos t) high (λ lt. over lt)
     (λ le. omega (arith, ints, le, between.1, times_mono q r t (next_least low t q r next between.0)))

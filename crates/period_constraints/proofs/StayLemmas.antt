@@ -16,7 +16,8 @@ use Rattle.period_constraints.specs.Routed.{HoldOneTank, ClashByRides}
 use Rattle.period_constraints.proofs.PairLemmas.{shift_same}
 
 -- one element more is written
-pub write_more : {A : Type 0} (P : ℕ → A → Type 0) (xs : List A) (i : ℕ) (v d : A) → i < length xs → ((j : ℕ) → j < i → P j (get_or xs j d)) → P i v
+pub write_more : {A : Type 0} (P : ℕ → A → Type 0) (xs : List A) (i : ℕ) (v d : A) → i < length xs
+    → ((j : ℕ) → j < i → P j (get_or xs j d)) → P i v
     → (j : ℕ) → j < i + 1 → P j (get_or (set xs i v) j d)
 write_more {A} P xs i v d there before here j lt =
     ⊎_elim
@@ -34,21 +35,25 @@ write_more {A} P xs i v d there before here j lt =
 
 -- ---- first pairs of what says the same
 
-pub pair_same : (P Q : ℕ → ℕ → ℤ → Type 0) (o : Option Pair) → ((i j : ℕ) (q : ℤ) → P i j q → Q i j q) → ((i j : ℕ) (q : ℤ) → Q i j q → P i j q)
+pub pair_same : (P Q : ℕ → ℕ → ℤ → Type 0) (o : Option Pair) → ((i j : ℕ) (q : ℤ) → P i j q → Q i j q)
+    → ((i j : ℕ) (q : ℤ) → Q i j q → P i j q)
     → IsFirstPair P o → IsFirstPair Q o
 pair_same P Q None to from none = λ i j q h. none i j q (from i j q h)
 pair_same P Q (Some x) to from first = (to x.first x.second x.shift first.0, λ i j q before h. first.1 i j q before (from i j q h))
 
-pub number_same : (P Q : ℕ → Type 0) (o : Option ℕ) → ((i : ℕ) → P i → Q i) → ((i : ℕ) → Q i → P i) → IsFirstNumber P o → IsFirstNumber Q o
+pub number_same : (P Q : ℕ → Type 0) (o : Option ℕ) → ((i : ℕ) → P i → Q i) → ((i : ℕ) → Q i → P i) → IsFirstNumber P o
+    → IsFirstNumber Q o
 number_same P Q None to from none = λ i h. none i (from i h)
 number_same P Q (Some n) to from first = (to n first.0, λ i lt h. first.1 i lt (from i h))
 
 -- ---- visits
 
 -- the first shift of two visits with one tank, from their stays
-pub tank_shift : (l : LineData) (tanks : List ℕ) (s : ℕ → ℤ) (x y : Stay) (period i j : ℕ) (low high : ℤ) (o : Option ℤ) → IsStay l tanks s i x
+pub tank_shift : (l : LineData) (tanks : List ℕ) (s : ℕ → ℤ) (x y : Stay) (period i j : ℕ) (low high : ℤ) (o : Option ℤ)
+    → IsStay l tanks s i x
     → IsStay l tanks s j y → i < j → j < visit_count l
-    → get_or tanks i 0 ≡ get_or tanks j 0 → low ≡ x.begin -ℤ y.end → high ≡ x.end -ℤ y.begin → IsFirstShift (λ q. IsBetween low high period q) o
+    → get_or tanks i 0 ≡ get_or tanks j 0 → low ≡ x.begin -ℤ y.end → high ≡ x.end -ℤ y.begin
+    → IsFirstShift (λ q. IsBetween low high period q) o
     → IsFirstShift (HoldOneTank l tanks s period i j) o
 tank_shift l tanks s x y period i j low high o a b before there tank is_low is_high first =
     shift_same (λ q. IsBetween low high period q) (HoldOneTank l tanks s period i j) o
@@ -75,7 +80,8 @@ some_and : (o : Option Span) (P Q : Span → Type 0) → ((x : Span) → P x →
 some_and None P Q to h = h
 some_and (Some x) P Q to h = to x h
 
-to_rides : (l : LineData) (tanks : List ℕ) (assigned : List (Option ℕ)) (s : ℕ → ℤ) (xs : List Start) (period i j : ℕ) (q : ℤ) → AreStarts l tanks assigned s xs
+to_rides : (l : LineData) (tanks : List ℕ) (assigned : List (Option ℕ)) (s : ℕ → ℤ) (xs : List Start) (period i j : ℕ) (q : ℤ)
+    → AreStarts l tanks assigned s xs
     → AreMeeting l xs period i j q
     → ClashByRides l tanks assigned s period i j q
 to_rides l tanks assigned s xs period i j q h meet =

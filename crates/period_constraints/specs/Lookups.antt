@@ -23,5 +23,6 @@ pub record AreRides (l : LineData) (rides : List Ride) : Type 0 where
 
 -- the first clashes of a table, row by row
 pub record AreSpans (l : LineData) (rides : List Ride) (spans : List (Option Span)) : Type 0 where
-  pub clash : (k : ℕ) → k < length spans → get_or spans k None ≡ clash_between l (ride_in rides (k / length rides)) (ride_in rides (k % length rides))
+  pub clash : (k : ℕ) → k < length spans
+      → get_or spans k None ≡ clash_between l (ride_in rides (k / length rides)) (ride_in rides (k % length rides))
   pub tight : (k : ℕ) → k < length spans → IfSome (get_or spans k None) IsTight

@@ -34,4 +34,5 @@ pub record HaveTanks (l : LineData) (choices : List (Option ℕ)) : Type 0 where
 -- the tank of each visit
 pub record AreChosen (l : LineData) (choices : List (Option ℕ)) (tanks : List ℕ) : Type 0 where
   pub room : visit_count l ≤ length tanks
-  pub each : (i : ℕ) → i < visit_count l → get_or tanks i 0 ≡ get_or (stage l (visit_at l i).stage).tanks (place_by choices i) 0
+  pub each : (i : ℕ) → i < visit_count l
+      → get_or tanks i 0 ≡ get_or (stage l (visit_at l i).stage).tanks (place_by choices i) 0

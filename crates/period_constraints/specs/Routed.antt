@@ -1,4 +1,5 @@
--- What is asked where the tank of each visit and the hoists that are assigned are known, by the numbers of visits and moves.
+-- What is asked where the tank of each visit and the hoists that are assigned are known, by the numbers of visits and
+-- moves.
 use Rattle.std.specs.Prelude.{◌≡◌, ◌≢◌, ℕ, ◌<◌, List, length, get_or, Option, None, IsSomeAnd, ℤ, ◌<ℤ◌, neg_ℤ}
 use Rattle.hoist_base.specs.LineData.{LineData, move_count, visit_count, visit_at, move_at}
 use Rattle.path_constraints.specs.Hoists.{hoists_reaching}

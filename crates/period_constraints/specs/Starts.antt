@@ -1,4 +1,5 @@
--- Moves with their rides and the ticks of their starts, from the tick of move 0 on, and a table of the clashes of rides.
+-- Moves with their rides and the ticks of their starts, from the tick of move 0 on, and a table of the clashes of
+-- rides.
 use Rattle.std.specs.Prelude.{◌≡◌, ℕ, ◌+◌, ◌*◌, ◌<◌, ◌≤◌, List, length, get_or, Option, Some, None, IsSomeAnd, IfSome, option_and_then, option_map, ℤ, pos, ◌+ℤ◌, ◌-ℤ◌, unsigned_abs}
 use Rattle.hoist_base.specs.LineData.{LineData, move_count, move_at}
 use Rattle.line_model.specs.Motion.{IsMotion}

@@ -34,16 +34,19 @@ order_cases c k c' k' =
 -- ---- carrying alone
 
 -- a tick of two stretches that are z and z' periods later
-carry_offset : (p : Timetable) (c k c' k' z z' t u v : ℕ) → u + later p z (p.start c k) ≡ t → v + later p z' (p.start c' k') ≡ t
+carry_offset : (p : Timetable) (c k c' k' z z' t u v : ℕ) → u + later p z (p.start c k) ≡ t
+    → v + later p z' (p.start c' k') ≡ t
     → between p c k c' k' (pos z' -ℤ pos z) +ℤ pos v ≡ pos u
 carry_offset p c k c' k' z z' t u v e f =
     at (p.start c k) (p.start c' k') (z * p.period) (z' * p.period) t u v ((pos z' -ℤ pos z) *ℤ pos p.period) (times_less (pos z') (pos z) p.period) e f
   where
-    at : (s s' turns turns' t u v : ℕ) (ahead : ℤ) → ahead ≡ pos turns' -ℤ pos turns → u + (s + turns) ≡ t → v + (s' + turns') ≡ t
+    at : (s s' turns turns' t u v : ℕ) (ahead : ℤ) → ahead ≡ pos turns' -ℤ pos turns → u + (s + turns) ≡ t
+        → v + (s' + turns') ≡ t
         → ((pos s' +ℤ ahead) -ℤ pos s) +ℤ pos v ≡ pos u
     at s s' turns turns' t u v ahead e f g = omega (arith, ints, e, f, g)
 
-never_twice : (l : LineData) (p : Timetable) (h t c k z c' k' z' : ℕ) → StartApart l p → IsBefore c k c' k' → CarriesAt l p h c k z t
+never_twice : (l : LineData) (p : Timetable) (h t c k z c' k' z' : ℕ) → StartApart l p → IsBefore c k c' k'
+    → CarriesAt l p h c k z t
     → CarriesAt l p h c' k' z' t → ⊥
 never_twice l p h t c k z c' k' z' s before a b =
     let u : ℕ = t - later p z (p.start c k) in
@@ -54,7 +57,8 @@ never_twice l p h t c k z c' k' z' s before a b =
     let on' : v < duration (motion l p c' k') = omega (arith, f, b.before) in
     s.apart c k c' k' (pos z' -ℤ pos z) a.move b.move before (inr (inl (a.hoist ∙ sym b.hoist, inl (u, v, on, on', carry_offset p c k c' k' z z' t u v e f))))
 
-pub carried_alone : (l : LineData) (p : Timetable) → StartApart l p → (h t c k z c' k' z' : ℕ) → CarriesAt l p h c k z t → CarriesAt l p h c' k' z' t
+pub carried_alone : (l : LineData) (p : Timetable) → StartApart l p → (h t c k z c' k' z' : ℕ) → CarriesAt l p h c k z t
+    → CarriesAt l p h c' k' z' t
     → (c ≡ c') × (k ≡ k') × (z ≡ z')
 carried_alone l p s h t c k z c' k' z' a b =
     ⊎_elim (λ before. absurd (never_twice l p h t c k z c' k' z' s before a b))
@@ -77,20 +81,23 @@ tick_offset : (p : Timetable) (c k c' k' u v : ℕ) (z z' x y : ℤ) → x ≡ p
 tick_offset p c k c' k' u v z z' x y e f =
     at (p.start c k) (p.start c' k') u v (z *ℤ pos p.period) (z' *ℤ pos p.period) ((z' -ℤ z) *ℤ pos p.period) x y (times_less z' z p.period) e f
   where
-    at : (s s' u v : ℕ) (turns turns' ahead x y : ℤ) → ahead ≡ turns' -ℤ turns → x ≡ pos (s + u) +ℤ turns → y ≡ pos (s' + v) +ℤ turns'
+    at : (s s' u v : ℕ) (turns turns' ahead x y : ℤ) → ahead ≡ turns' -ℤ turns → x ≡ pos (s + u) +ℤ turns
+        → y ≡ pos (s' + v) +ℤ turns'
         → (((pos s' +ℤ ahead) -ℤ pos s) +ℤ pos v) -ℤ pos u ≡ y -ℤ x
     at s s' u v turns turns' ahead x y e f g = omega (arith, ints, e, f, g)
 
 abs_back : (o x y : ℤ) (u v : ℕ) → (o +ℤ pos v) -ℤ pos u ≡ y -ℤ x → ticks_between o u v ≡ unsigned_abs (x -ℤ y)
 abs_back o x y u v e = omega (arith, ints, e)
 
-abs_turned : (o x y : ℤ) (u v : ℕ) → (o +ℤ pos v) -ℤ pos u ≡ y -ℤ x → ticks_between (neg_ℤ o) v u ≡ unsigned_abs (y -ℤ x)
+abs_turned : (o x y : ℤ) (u v : ℕ) → (o +ℤ pos v) -ℤ pos u ≡ y -ℤ x
+    → ticks_between (neg_ℤ o) v u ≡ unsigned_abs (y -ℤ x)
 abs_turned o x y u v e = omega (arith, ints, e)
 
 at_hoists : (h h' g g' gap : ℕ) → h ≡ g → h' ≡ g' → (h' - h) * gap ≡ (g' - g) * gap
 at_hoists h h' g g' gap e f = ap (λ (n : ℕ). (h' - n) * gap) e ∙ ap (λ (n : ℕ). (n - g) * gap) f
 
-moves_agree : (l : LineData) (p : Timetable) (c k u c' k' v : ℕ) (z z' : ℤ) (x y : Point) → StartApart l p → IsBefore c k c' k' → FixedBy l p c k u z x
+moves_agree : (l : LineData) (p : Timetable) (c k u c' k' v : ℕ) (z z' : ℤ) (x y : Point) → StartApart l p
+    → IsBefore c k c' k' → FixedBy l p c k u z x
     → FixedBy l p c' k' v z' y → Contradict l x y → ⊥
 moves_agree l p c k u c' k' v z z' x y s before f g bad =
     let m = motion l p c k in
@@ -167,17 +174,20 @@ same_agrees m s u v period w z z' on on' fits e =
         → w ≡ unsigned_abs ((pos (s + u) +ℤ turns) -ℤ (pos (s + v) +ℤ turns')) → period + v ≤ w + u
     later_is s u v period w turns turns' ahead e f g = omega (arith, ints, e, f, g)
 
-    earlier_is : (s u v period w : ℕ) (turns turns' ahead : ℤ) (d : ℕ) → ahead ≡ turns -ℤ turns' → pos period ≤ℤ ahead → u ≤ d → v ≤ d → d ≤ period
+    earlier_is : (s u v period w : ℕ) (turns turns' ahead : ℤ) (d : ℕ) → ahead ≡ turns -ℤ turns' → pos period ≤ℤ ahead
+        → u ≤ d → v ≤ d → d ≤ period
         → w ≡ unsigned_abs ((pos (s + u) +ℤ turns) -ℤ (pos (s + v) +ℤ turns')) → period + u ≤ w + v
     earlier_is s u v period w turns turns' ahead d e f on on' lasts g = omega (arith, ints, e, f, g)
 
     turned : (a b w : ℕ) → abs_diff a b ≤ w → abs_diff b a ≤ w
     turned a b w h = omega (arith, h)
 
-    within : (s u v w : ℕ) (turns turns' : ℤ) → turns ≡ turns' → w ≡ unsigned_abs ((pos (s + u) +ℤ turns) -ℤ (pos (s + v) +ℤ turns')) → abs_diff u v ≤ w
+    within : (s u v w : ℕ) (turns turns' : ℤ) → turns ≡ turns'
+        → w ≡ unsigned_abs ((pos (s + u) +ℤ turns) -ℤ (pos (s + v) +ℤ turns')) → abs_diff u v ≤ w
     within s u v w turns turns' e f = omega (arith, ints, e, f)
 
-move_agrees : (l : LineData) (p : Timetable) (c k u v : ℕ) (z z' : ℤ) (x y : Point) → StartApart l p → FixedBy l p c k u z x → FixedBy l p c k v z' y
+move_agrees : (l : LineData) (p : Timetable) (c k u v : ℕ) (z z' : ℤ) (x y : Point) → StartApart l p
+    → FixedBy l p c k u z x → FixedBy l p c k v z' y
     → Contradict l x y → ⊥
 move_agrees l p c k u v z z' x y s f g bad =
     let m = motion l p c k in

@@ -10,7 +10,8 @@ use Rattle.planning.proofs.Choices.{Settled, lasts_little}
 use Rattle.planning.proofs.Rows.{Timed, least_row, entry_row, around_row, visit_row}
 
 -- the carriers enter one after another
-pub carriers_rise : (l : LineData) (path : List Decision) (ticks : ℕ → ℤ) (period c n : ℕ) → Timed l path ticks period → c + n < l.degree
+pub carriers_rise : (l : LineData) (path : List Decision) (ticks : ℕ → ℤ) (period c n : ℕ) → Timed l path ticks period
+    → c + n < l.degree
     → ticks (move_number l c 0) ≤ℤ ticks (move_number l (c + n) 0)
 carriers_rise l path ticks period c zero t lt =
     let e : ticks (move_number l (c + 0) 0) ≡ ticks (move_number l c 0) = ap (λ (x : ℕ). ticks (move_number l x 0)) (omega arith) in
@@ -25,7 +26,8 @@ carriers_rise l path ticks period c (suc n) t lt =
     later a b x y w e f g = omega (arith, ints, e, f, g)
 
 -- a carrier's moves start one after another, and not long after one another
-pub steps_rise : (l : LineData) (path : List Decision) (p : Timetable) (ticks : ℕ → ℤ) (period c k : ℕ) → IsLine l → Settled l path p
+pub steps_rise : (l : LineData) (path : List Decision) (p : Timetable) (ticks : ℕ → ℤ) (period c k : ℕ) → IsLine l
+    → Settled l path p
     → Timed l path ticks period → period ≤ 20000 → IsMove l c k
     → (ticks (move_number l c 0) ≤ℤ ticks (move_number l c k)) × (ticks (move_number l c k) ≤ℤ (ticks (move_number l c 0) +ℤ pos (k * 22000)))
 steps_rise l path p ticks period c zero line s t small move = (omega (arith, ints), omega (arith, ints))
@@ -45,12 +47,14 @@ steps_rise l path p ticks period c (suc k) line s t small move =
     later : (a b x y : ℤ) (w : ℕ) → y ≡ x → a ≤ℤ b → (b +ℤ pos w) ≤ℤ x → a ≤ℤ y
     later a b x y w e f g = omega (arith, ints, e, f, g)
 
-    sooner : (a b x y : ℤ) (w d period k : ℕ) → y ≡ x → b ≤ℤ (a +ℤ pos (k * 22000)) → (x +ℤ pos w) ≤ℤ (b +ℤ pos (d + period)) → d ≤ 2000 → period ≤ 20000
+    sooner : (a b x y : ℤ) (w d period k : ℕ) → y ≡ x → b ≤ℤ (a +ℤ pos (k * 22000))
+        → (x +ℤ pos w) ≤ℤ (b +ℤ pos (d + period)) → d ≤ 2000 → period ≤ 20000
         → y ≤ℤ (a +ℤ pos (suc k * 22000))
     sooner a b x y w d period k e f g le le' = omega (arith, ints, e, f, g)
 
 -- with 0 at the first move
-pub ticks_small : (l : LineData) (path : List Decision) (p : Timetable) (ticks : ℕ → ℤ) (period c k : ℕ) → IsLine l → Settled l path p
+pub ticks_small : (l : LineData) (path : List Decision) (p : Timetable) (ticks : ℕ → ℤ) (period c k : ℕ) → IsLine l
+    → Settled l path p
     → Timed l path ticks period → period ≤ 20000 → ticks 0 ≡ pos 0 → IsMove l c k
     → (pos 0 ≤ℤ ticks (move_number l c k)) × (ticks (move_number l c k) ≤ℤ pos 1000000)
 ticks_small l path p ticks period c k line s t small origin move =
@@ -68,7 +72,8 @@ ticks_small l path p ticks period c k line s t small origin move =
     (l.load + (stage l 0).lift) period k zero_is origin above below around steps.0 steps.1 small
     (omega (arith, move.1, line.limits.stages.1))
   where
-    within : (first zero' a z x : ℤ) (w period k : ℕ) → first ≡ zero' → zero' ≡ pos 0 → first ≤ℤ a → a ≤ℤ z → (z +ℤ pos w) ≤ℤ (zero' +ℤ pos period) → a ≤ℤ x
+    within : (first zero' a z x : ℤ) (w period k : ℕ) → first ≡ zero' → zero' ≡ pos 0 → first ≤ℤ a → a ≤ℤ z
+        → (z +ℤ pos w) ≤ℤ (zero' +ℤ pos period) → a ≤ℤ x
         → x ≤ℤ (a +ℤ pos (k * 22000)) → period ≤ 20000 → k ≤ 30
         → (pos 0 ≤ℤ x) × (x ≤ℤ pos 1000000)
     within first zero' a z x w period k e e' f g h i j le le' = (omega (arith, ints), omega (arith, ints))

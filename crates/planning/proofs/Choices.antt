@@ -1,4 +1,5 @@
--- A timetable whose tanks and hoists are those that a path settles: durations, rides and clashes below the path are its own.
+-- A timetable whose tanks and hoists are those that a path settles: durations, rides and clashes below the path are its
+-- own.
 use Rattle.std.proofs.Common.{◌≡◌, ℕ, ◌+◌, ◌≤◌, List, map, refl, sym, ◌∙◌, ap, arith, Some, None}
 use Rattle.std.specs.Prelude.{Option, option_map, option_and_then}
 use Rattle.hoist_base.specs.LineData.{LineData, IsMove, IsVisit}
@@ -30,21 +31,25 @@ visit_after l c k move = (move.0, omega (arith, move.1))
 
 -- ---- motions
 
-pub is_motion : (l : LineData) (p : Timetable) (c k : ℕ) → IsLine l → IsRouted l p → IsMove l c k → IsMotion (motion l p c k)
+pub is_motion : (l : LineData) (p : Timetable) (c k : ℕ) → IsLine l → IsRouted l p → IsMove l c k
+    → IsMotion (motion l p c k)
 is_motion l p c k line routed move =
     let from = line.tanks.on_track (p.tank c k) (line.stages.there k (p.tank c k) (routed c k (visit_before l c k move))) in
     let to = line.tanks.on_track (p.tank c (k + 1)) (line.stages.there (k + 1) (p.tank c (k + 1)) (routed c (k + 1) (visit_after l c k move))) in
     let short = line.limits.track.1 in
     record { from = omega (arith, from, short); to = omega (arith, to, short); lift = line.times.lift k move.1; lower = line.times.lower k move.1 }
 
-pub lasts_little : (l : LineData) (p : Timetable) (c k : ℕ) → IsLine l → IsRouted l p → IsMove l c k → duration (motion l p c k) ≤ 2000
+pub lasts_little : (l : LineData) (p : Timetable) (c k : ℕ) → IsLine l → IsRouted l p → IsMove l c k
+    → duration (motion l p c k) ≤ 2000
 lasts_little l p c k line routed move = (lasts (motion l p c k) (is_motion l p c k line routed move)).1
 
-pub low_own : (l : LineData) (path : List Decision) (p : Timetable) (c k : ℕ) → Settled l path p → IsMove l c k → low l path c k ≡ duration (motion l p c k)
+pub low_own : (l : LineData) (path : List Decision) (p : Timetable) (c k : ℕ) → Settled l path p → IsMove l c k
+    → low l path c k ≡ duration (motion l p c k)
 low_own l path p c k s move =
     low_is l path c k (p.tank c k) (p.tank c (k + 1)) (s.tank c k (visit_before l c k move)) (s.tank c (k + 1) (visit_after l c k move))
 
-pub high_own : (l : LineData) (path : List Decision) (p : Timetable) (c k : ℕ) → Settled l path p → IsMove l c k → high l path c k ≡ duration (motion l p c k)
+pub high_own : (l : LineData) (path : List Decision) (p : Timetable) (c k : ℕ) → Settled l path p → IsMove l c k
+    → high l path c k ≡ duration (motion l p c k)
 high_own l path p c k s move =
     high_is l path c k (p.tank c k) (p.tank c (k + 1)) (s.tank c k (visit_before l c k move)) (s.tank c (k + 1) (visit_after l c k move))
 
@@ -59,7 +64,8 @@ back_own l path p c k s move =
 some_same : {X : Type 0} (x y : X) → Some x ≡ Some y → x ≡ y
 some_same x y e = cc
 
-with_part : {X : Type 0} (o : Option X) (f : X → ℕ) (h : ℕ) → option_map f o ≡ Some h → (x : X) × (o ≡ Some x) × (f x ≡ h)
+with_part : {X : Type 0} (o : Option X) (f : X → ℕ) (h : ℕ) → option_map f o ≡ Some h
+    → (x : X) × (o ≡ Some x) × (f x ≡ h)
 with_part None f h e = cc
 with_part (Some x) f h e = (x, refl, some_same (f x) h e)
 
@@ -73,7 +79,8 @@ ride_own l path p c k s move =
     let same : r.motion ≡ motion l p c k = some_same r.motion (motion l p c k) (sym parts.motion ∙ own) in
     is ∙ ap (λ (x : Motion). Some (record r { motion = x })) same ∙ ap (λ (y : ℕ). Some (record (ride_of l p c k) { hoist = y })) rides
 
-pub clash_own : (l : LineData) (path : List Decision) (p : Timetable) (a b : MoveId) → Settled l path p → IsMove l a.carrier a.step → IsMove l b.carrier b.step
+pub clash_own : (l : LineData) (path : List Decision) (p : Timetable) (a b : MoveId) → Settled l path p
+    → IsMove l a.carrier a.step → IsMove l b.carrier b.step
     → clash_below l path a b ≡ clash_of l (motion l p a.carrier a.step) (p.hoist a.carrier a.step) (motion l p b.carrier b.step) (p.hoist b.carrier b.step)
 clash_own l path p a b s move move' =
     ap (λ o. option_and_then (λ x. option_and_then (λ y. clash_between l x y) (ride_below l path b.carrier b.step)) o)

@@ -25,7 +25,8 @@ use Rattle.planning.proofs.Agreement.{order_cases}
 pub record Starts (l : LineData) (p : Timetable) (ticks : ℕ → ℤ) : Type 0 where
   pub start : (c k : ℕ) → IsMove l c k → pos (p.start c k) ≡ ticks (move_number l c k) +ℤ pos l.load
   pub put : (c : ℕ) → c < l.degree → p.put c + l.load ≡ p.start c 0
-  pub off : (c : ℕ) → c < l.degree → p.off c ≡ p.start c (last_step l) + duration (motion l p c (last_step l)) + l.unload
+  pub off : (c : ℕ) → c < l.degree
+      → p.off c ≡ p.start c (last_step l) + duration (motion l p c (last_step l)) + l.unload
 
 -- ---- begins and ends
 
@@ -40,7 +41,8 @@ later_begin l p c k lt =
 pub last_end : (l : LineData) (p : Timetable) (c k : ℕ) → k ≡ last_stage l → hold_end l p c k ≡ p.off c
 last_end l p c k e = if_true (k == last_stage l) (p.off c) (p.start c k + (stage l k).lift) (eq-eqb k (last_stage l) e)
 
-pub earlier_end : (l : LineData) (p : Timetable) (c k : ℕ) → k < last_stage l → hold_end l p c k ≡ p.start c k + (stage l k).lift
+pub earlier_end : (l : LineData) (p : Timetable) (c k : ℕ) → k < last_stage l
+    → hold_end l p c k ≡ p.start c k + (stage l k).lift
 earlier_end l p c k lt =
     if_false (k == last_stage l) (p.off c) (p.start c k + (stage l k).lift) (ne_eqb k (last_stage l) (λ e. omega (arith, e, lt)))
 
@@ -51,7 +53,8 @@ last_move : (l : LineData) (c : ℕ) → IsLine l → c < l.degree → IsMove l 
 last_move l c line there = (there, omega (arith, line.limits.stages.0))
 
 -- the begin and the end by the ticks of moves, moved by the load time
-begin_is : (l : LineData) (path : List Decision) (p : Timetable) (ticks : ℕ → ℤ) (c k : ℕ) → IsLine l → Settled l path p → Starts l p ticks → IsVisit l c k
+begin_is : (l : LineData) (path : List Decision) (p : Timetable) (ticks : ℕ → ℤ) (c k : ℕ) → IsLine l → Settled l path p
+    → Starts l p ticks → IsVisit l c k
     → tick_of l ticks (begin_of l (low l path) c k) +ℤ pos l.load ≡ pos (hold_begin l p c k)
 begin_is l path p ticks c k line s starts visit =
     ⊎_elim
@@ -68,14 +71,17 @@ begin_is l path p ticks c k line s starts visit =
     (first_begin l p c k e))
     (cases_lt 0 k)
   where
-    by_move : (m t : ℤ) (d d' lower start load hb : ℕ) → m ≡ t +ℤ (pos d -ℤ pos lower) → d ≡ d' → pos start ≡ t +ℤ pos load → hb ≡ start + d' - lower
+    by_move : (m t : ℤ) (d d' lower start load hb : ℕ) → m ≡ t +ℤ (pos d -ℤ pos lower) → d ≡ d'
+        → pos start ≡ t +ℤ pos load → hb ≡ start + d' - lower
         → lower ≤ d' → m +ℤ pos load ≡ pos hb
     by_move m t d d' lower start load hb e f g h le = omega (arith, ints, e, f, g, h, le)
 
-    at_load : (m t : ℤ) (load start put hb : ℕ) → m ≡ t +ℤ neg_ℤ (pos load) → pos start ≡ t +ℤ pos load → put + load ≡ start → hb ≡ put → m +ℤ pos load ≡ pos hb
+    at_load : (m t : ℤ) (load start put hb : ℕ) → m ≡ t +ℤ neg_ℤ (pos load) → pos start ≡ t +ℤ pos load
+        → put + load ≡ start → hb ≡ put → m +ℤ pos load ≡ pos hb
     at_load m t load start put hb e f g h = omega (arith, ints, e, f, g, h)
 
-end_is : (l : LineData) (path : List Decision) (p : Timetable) (ticks : ℕ → ℤ) (c k : ℕ) → IsLine l → Settled l path p → Starts l p ticks → IsVisit l c k
+end_is : (l : LineData) (path : List Decision) (p : Timetable) (ticks : ℕ → ℤ) (c k : ℕ) → IsLine l → Settled l path p
+    → Starts l p ticks → IsVisit l c k
     → tick_of l ticks (end_of l (low l path) c k) +ℤ pos l.load ≡ pos (hold_end l p c k)
 end_is l path p ticks c k line s starts visit =
     ⊎_elim
@@ -91,16 +97,19 @@ end_is l path p ticks c k line s starts visit =
     (last_end l p c k e))
     (cases_lt k (last_stage l))
   where
-    by_move : (m t : ℤ) (lift start load he : ℕ) → m ≡ t +ℤ pos lift → pos start ≡ t +ℤ pos load → he ≡ start + lift → m +ℤ pos load ≡ pos he
+    by_move : (m t : ℤ) (lift start load he : ℕ) → m ≡ t +ℤ pos lift → pos start ≡ t +ℤ pos load → he ≡ start + lift
+        → m +ℤ pos load ≡ pos he
     by_move m t lift start load he e f g = omega (arith, ints, e, f, g)
 
-    at_unload : (m t : ℤ) (d d' unload start load off he : ℕ) → m ≡ t +ℤ pos (d + unload) → d ≡ d' → pos start ≡ t +ℤ pos load → off ≡ start + d' + unload
+    at_unload : (m t : ℤ) (d d' unload start load off he : ℕ) → m ≡ t +ℤ pos (d + unload) → d ≡ d'
+        → pos start ≡ t +ℤ pos load → off ≡ start + d' + unload
         → he ≡ off → m +ℤ pos load ≡ pos he
     at_unload m t d d' unload start load off he e f g h i = omega (arith, ints, e, f, g, h, i)
 
 -- ---- two visits
 
-share_tank : (l : LineData) (path : List Decision) (p : Timetable) (a b : VisitId) → Settled l path p → IsVisit l a.carrier a.stage
+share_tank : (l : LineData) (path : List Decision) (p : Timetable) (a b : VisitId) → Settled l path p
+    → IsVisit l a.carrier a.stage
     → IsVisit l b.carrier b.stage → IsBefore a.carrier a.stage b.carrier b.stage
     → p.tank a.carrier a.stage ≡ p.tank b.carrier b.stage → ShareTank l path a b
 share_tank l path p a b s visit visit' before same = record {
@@ -117,7 +126,8 @@ share_tank l path p a b s visit visit' before same = record {
     begun : (c k : ℕ) → IsVisit l c k → HasBegin l path c k
     begun c k visit = λ lt. ap (λ (o : Option ℕ). is_some o) (s.tank c (k - 1) (visit.0, omega (arith, visit.1)))
 
-never_held_twice : (l : LineData) (path : List Decision) (p : Timetable) (ticks : ℕ → ℤ) (i t c k z c' k' z' : ℕ) → IsLine l → Settled l path p
+never_held_twice : (l : LineData) (path : List Decision) (p : Timetable) (ticks : ℕ → ℤ) (i t c k z c' k' z' : ℕ)
+    → IsLine l → Settled l path p
     → Timed l path ticks p.period → Starts l p ticks → IsBefore c k c' k'
     → HoldsAt l p i c k z t → HoldsAt l p i c' k' z' t → ⊥
 never_held_twice l path p ticks i t c k z c' k' z' line s timed starts before a b =
@@ -135,18 +145,21 @@ never_held_twice l path p ticks i t c k z c' k' z' line s timed starts before a 
           (begin_is l path p ticks c k line s starts a.visit) (end_is l path p ticks c' k' line s starts b.visit) a.from b.before,
     )
   where
-    begins_first : (m n : ℤ) (hb he load turns turns' t : ℕ) (ahead : ℤ) → ahead ≡ pos turns' -ℤ pos turns → m +ℤ pos load ≡ pos hb → n +ℤ pos load ≡ pos he
+    begins_first : (m n : ℤ) (hb he load turns turns' t : ℕ) (ahead : ℤ) → ahead ≡ pos turns' -ℤ pos turns
+        → m +ℤ pos load ≡ pos hb → n +ℤ pos load ≡ pos he
         → hb + turns' ≤ t → t < he + turns → (m +ℤ ahead) <ℤ n
     begins_first m n hb he load turns turns' t ahead e f g from before = omega (arith, ints, e, f, g, from, before)
 
-    ends_later : (m n : ℤ) (hb he load turns turns' t : ℕ) (ahead : ℤ) → ahead ≡ pos turns' -ℤ pos turns → m +ℤ pos load ≡ pos hb → n +ℤ pos load ≡ pos he
+    ends_later : (m n : ℤ) (hb he load turns turns' t : ℕ) (ahead : ℤ) → ahead ≡ pos turns' -ℤ pos turns
+        → m +ℤ pos load ≡ pos hb → n +ℤ pos load ≡ pos he
         → hb + turns ≤ t → t < he + turns' → m <ℤ (n +ℤ ahead)
     ends_later m n hb he load turns turns' t ahead e f g from before = omega (arith, ints, e, f, g, from, before)
 
 -- ---- one visit, again and again
 
 -- the load station has its time in a period
-load_fits : (l : LineData) (path : List Decision) (ticks : ℕ → ℤ) (period : ℕ) → IsLine l → Timed l path ticks period → l.load + (stage l 0).lift ≤ period
+load_fits : (l : LineData) (path : List Decision) (ticks : ℕ → ℤ) (period : ℕ) → IsLine l → Timed l path ticks period
+    → l.load + (stage l 0).lift ≤ period
 load_fits l path ticks period line t =
     let last : ℕ = l.degree - 1 in
     let some = line.limits.degree.0 in
@@ -156,10 +169,12 @@ load_fits l path ticks period line t =
     (l.load + (stage l 0).lift) period zero_is up
     (carriers_rise l path ticks period 0 last t (omega (arith, some))) (around_row l path ticks period last t (omega (arith, some)))
   where
-    within : (first zero' a b : ℤ) (w period : ℕ) → first ≡ zero' → a ≡ b → first ≤ℤ a → (b +ℤ pos w) ≤ℤ (zero' +ℤ pos period) → w ≤ period
+    within : (first zero' a b : ℤ) (w period : ℕ) → first ≡ zero' → a ≡ b → first ≤ℤ a
+        → (b +ℤ pos w) ≤ℤ (zero' +ℤ pos period) → w ≤ period
     within first zero' a b w period e f g h = omega (arith, ints, e, f, g, h)
 
-hold_short : (l : LineData) (path : List Decision) (p : Timetable) (ticks : ℕ → ℤ) (c k : ℕ) → IsLine l → Settled l path p → Timed l path ticks p.period
+hold_short : (l : LineData) (path : List Decision) (p : Timetable) (ticks : ℕ → ℤ) (c k : ℕ) → IsLine l
+    → Settled l path p → Timed l path ticks p.period
     → Starts l p ticks → IsVisit l c k
     → hold_end l p c k ≤ hold_begin l p c k + p.period
 hold_short l path p ticks c k line s t starts visit =
@@ -194,15 +209,18 @@ hold_short l path p ticks c k line s t starts visit =
     omega (arith, first_begin l p c k e, earlier_end l p c k (omega (arith, e, stages)), lift_is, starts.put c visit.0, load_fits l path ticks p.period line t))
     (cases_lt 0 k)
   where
-    at_tank : (x y : ℤ) (lift lower d period start start' load hb he : ℕ) → (x +ℤ pos (lift + lower)) ≤ℤ (y +ℤ pos (d + period)) → pos start ≡ x +ℤ pos load
+    at_tank : (x y : ℤ) (lift lower d period start start' load hb he : ℕ)
+        → (x +ℤ pos (lift + lower)) ≤ℤ (y +ℤ pos (d + period)) → pos start ≡ x +ℤ pos load
         → pos start' ≡ y +ℤ pos load → hb ≡ start' + d - lower → he ≡ start + lift → he ≤ hb + period
     at_tank x y lift lower d period start start' load hb he row e f g h = omega (arith, ints, row, e, f, g, h)
 
-    at_unload : (a b lower lower' unload period off hb he : ℕ) → a ≡ b → lower ≡ lower' → lower' + unload ≤ period → off ≡ b + unload → hb ≡ a - lower
+    at_unload : (a b lower lower' unload period off hb he : ℕ) → a ≡ b → lower ≡ lower' → lower' + unload ≤ period
+        → off ≡ b + unload → hb ≡ a - lower
         → he ≡ off → he ≤ hb + period
     at_unload a b lower lower' unload period off hb he e f fits g h i = omega (arith, e, f, fits, g, h, i)
 
-pub held_alone : (l : LineData) (path : List Decision) (p : Timetable) (ticks : ℕ → ℤ) → IsLine l → Settled l path p → Timed l path ticks p.period
+pub held_alone : (l : LineData) (path : List Decision) (p : Timetable) (ticks : ℕ → ℤ) → IsLine l → Settled l path p
+    → Timed l path ticks p.period
     → Starts l p ticks → AreHeldAlone l p
 held_alone l path p ticks line s timed starts i t c k z c' k' z' a b =
     ⊎_elim (λ before. absurd (never_held_twice l path p ticks i t c k z c' k' z' line s timed starts before a b))

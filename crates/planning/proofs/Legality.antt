@@ -1,4 +1,5 @@
--- A timetable with the ticks, tanks and hoists of a solved path, and the lowest paths through all that its moves fix, is legal.
+-- A timetable with the ticks, tanks and hoists of a solved path, and the lowest paths through all that its moves fix,
+-- is legal.
 use Rattle.std.proofs.Common.{◌≡◌, ℕ, ◌+◌, ◌-◌, ◌<◌, ◌≤◌, List, length, ap, ℤ, pos, ◌+ℤ◌, ◌≤ℤ◌, arith, Some, None}
 use Rattle.std.specs.Prelude.{Option, IfSome}
 use Rattle.std.proofs.lemmas.Int.{ints}
@@ -14,12 +15,14 @@ use Rattle.planning.proofs.Rides.{start_apart}
 use Rattle.planning.proofs.Agreement.{carried_alone}
 use Rattle.planning.proofs.Holding.{Starts, held_alone}
 
-most : (o : Option ℕ) (a b : ℤ) (s s' d load : ℕ) → pos s ≡ a +ℤ pos load → pos s' ≡ b +ℤ pos load → IfSome o (λ m. b ≤ℤ (a +ℤ pos (d + m)))
+most : (o : Option ℕ) (a b : ℤ) (s s' d load : ℕ) → pos s ≡ a +ℤ pos load → pos s' ≡ b +ℤ pos load
+    → IfSome o (λ m. b ≤ℤ (a +ℤ pos (d + m)))
     → IfSome o (λ m. s' ≤ s + d + m)
 most None a b s s' d load e f h = tt
 most (Some m) a b s s' d load e f h = omega (arith, ints, e, f, h)
 
-windows : (l : LineData) (path : List Decision) (p : Timetable) (ticks : ℕ → ℤ) → Settled l path p → Timed l path ticks p.period → Starts l p ticks
+windows : (l : LineData) (path : List Decision) (p : Timetable) (ticks : ℕ → ℤ) → Settled l path p
+    → Timed l path ticks p.period → Starts l p ticks
     → HasWindows l p
 windows l path p ticks s t starts = record {
   least = λ c k move.
@@ -37,10 +40,12 @@ windows l path p ticks s t starts = record {
     before : (c k : ℕ) → IsMove l c (k + 1) → IsMove l c k
     before c k move = (move.0, omega (arith, move.1))
 
-    late_enough : (a b : ℤ) (s s' d least load : ℕ) → pos s ≡ a +ℤ pos load → pos s' ≡ b +ℤ pos load → (a +ℤ pos (d + least)) ≤ℤ b → s + d + least ≤ s'
+    late_enough : (a b : ℤ) (s s' d least load : ℕ) → pos s ≡ a +ℤ pos load → pos s' ≡ b +ℤ pos load
+        → (a +ℤ pos (d + least)) ≤ℤ b → s + d + least ≤ s'
     late_enough a b s s' d least load e f h = omega (arith, ints, e, f, h)
 
-numbered : (l : LineData) (path : List Decision) (p : Timetable) (ticks : ℕ → ℤ) → IsLine l → Timed l path ticks p.period → Starts l p ticks → AreNumbered l p
+numbered : (l : LineData) (path : List Decision) (p : Timetable) (ticks : ℕ → ℤ) → IsLine l
+    → Timed l path ticks p.period → Starts l p ticks → AreNumbered l p
 numbered l path p ticks line t starts = record {
   rising = λ c lt.
       let here : c < l.degree = omega (arith, lt) in
@@ -63,11 +68,13 @@ numbered l path p ticks line t starts = record {
     some : 1 ≤ (stage l 0).lift
     some = (line.times.lift 0 first).0
 
-    after : (a b : ℤ) (s s' put put' load lift : ℕ) → pos s ≡ a +ℤ pos load → pos s' ≡ b +ℤ pos load → put + load ≡ s → put' + load ≡ s'
+    after : (a b : ℤ) (s s' put put' load lift : ℕ) → pos s ≡ a +ℤ pos load → pos s' ≡ b +ℤ pos load → put + load ≡ s
+        → put' + load ≡ s'
         → (a +ℤ pos (load + lift)) ≤ℤ b → 1 ≤ lift → put < put'
     after a b s s' put put' load lift e f g h row some = omega (arith, ints, e, f, g, h, row, some)
 
-    next : (a b b' : ℤ) (s s' put put' load lift period : ℕ) → b ≡ b' → pos s ≡ a +ℤ pos load → pos s' ≡ b' +ℤ pos load → put + load ≡ s → put' + load ≡ s'
+    next : (a b b' : ℤ) (s s' put put' load lift period : ℕ) → b ≡ b' → pos s ≡ a +ℤ pos load → pos s' ≡ b' +ℤ pos load
+        → put + load ≡ s → put' + load ≡ s'
         → (a +ℤ pos (load + lift)) ≤ℤ (b +ℤ pos period) → 1 ≤ lift → put < put' + period
     next a b b' s s' put put' load lift period z e f g h row some = omega (arith, ints, z, e, f, g, h, row, some)
 
@@ -75,9 +82,11 @@ numbered l path p ticks line t starts = record {
 pub record Follows (l : LineData) (p : Timetable) : Type 0 where
   pub track : IsTrack l p
   pub hoist : (c k : ℕ) → IsMove l c k → p.hoist c k < l.hoists
-  pub along : (c k u : ℕ) → IsMove l c k → u ≤ duration (motion l p c k) → position p (p.hoist c k) (p.start c k + u) ≡ place (motion l p c k) u
+  pub along : (c k u : ℕ) → IsMove l c k → u ≤ duration (motion l p c k)
+      → position p (p.hoist c k) (p.start c k + u) ≡ place (motion l p c k) u
 
-pub is_legal : (l : LineData) (path : List Decision) (p : Timetable) (ticks : ℕ → ℤ) → IsLine l → 1 ≤ p.period → Settled l path p → Timed l path ticks p.period
+pub is_legal : (l : LineData) (path : List Decision) (p : Timetable) (ticks : ℕ → ℤ) → IsLine l → 1 ≤ p.period
+    → Settled l path p → Timed l path ticks p.period
     → Starts l p ticks → Follows l p → IsLegal l p
 is_legal l path p ticks line some s t starts follows = record {
   period = some;

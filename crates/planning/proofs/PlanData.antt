@@ -42,7 +42,8 @@ use Rattle.planning.proofs.Legality.{Follows, is_legal}
 pub timed : (l : LineData) (s : Solved) (x : IsPlannable l s) → Timed l x.path (tick_at s.ticks) s.period
 timed l s x = record { constraints = x.constraints; orders = x.orders }
 
-pub settled : (l : LineData) (s : Solved) (starts : List ℕ) (x : IsPlannable l s) → Settled l x.path (duties l s.tanks s.period starts s.hoists)
+pub settled : (l : LineData) (s : Solved) (starts : List ℕ) (x : IsPlannable l s)
+    → Settled l x.path (duties l s.tanks s.period starts s.hoists)
 settled l s starts x = record { routed = x.route.serves; tank = x.settles.tank; hoist = x.settles.hoist }
 
 small_at : (l : LineData) (s : Solved) (i : ℕ) → IsLine l → IsPlannable l s → i < length s.ticks
@@ -59,7 +60,8 @@ small_ticks l s line x i lt = small_at l s i line x lt
 
 -- ---- starts
 
-pub start_low : (l : LineData) (s : Solved) (starts : List ℕ) (i : ℕ) → IsLine l → IsPlannable l s → AreStarts l.load s.ticks starts
+pub start_low : (l : LineData) (s : Solved) (starts : List ℕ) (i : ℕ) → IsLine l → IsPlannable l s
+    → AreStarts l.load s.ticks starts
     → get_or starts i 0 ≤ 1020000
 start_low l s starts i line x are =
     ⊎_elim
@@ -73,11 +75,13 @@ start_low l s starts i line x are =
 there : (l : LineData) (s : Solved) (c k : ℕ) → IsPlannable l s → IsMove l c k → move_number l c k < length s.ticks
 there l s c k x move = omega (arith, move_below l c k move, x.ticks)
 
-pub start_is : (l : LineData) (s : Solved) (starts : List ℕ) (c k : ℕ) → IsPlannable l s → AreStarts l.load s.ticks starts → IsMove l c k
+pub start_is : (l : LineData) (s : Solved) (starts : List ℕ) (c k : ℕ) → IsPlannable l s
+    → AreStarts l.load s.ticks starts → IsMove l c k
     → pos (get_or starts (move_number l c k) 0) ≡ tick_at s.ticks (move_number l c k) +ℤ pos l.load
 start_is l s starts c k x are move = are.at (move_number l c k) (there l s c k x move)
 
-pub are_loaded : (l : LineData) (s : Solved) (starts : List ℕ) → IsLine l → IsPlannable l s → AreStarts l.load s.ticks starts → AreLoaded l starts
+pub are_loaded : (l : LineData) (s : Solved) (starts : List ℕ) → IsLine l → IsPlannable l s
+    → AreStarts l.load s.ticks starts → AreLoaded l starts
 are_loaded l s starts line x are c lt =
     let move : IsMove l c 0 = (lt, omega (arith, line.limits.stages.0)) in
     loaded (get_or starts (move_number l c 0) 0) (tick_at s.ticks (move_number l c 0)) l.load (start_is l s starts c 0 x are move)
@@ -114,14 +118,16 @@ reach_of l path p c k s move =
     let found = left_over (λ g. reaches_motion l g m) (numbers_from 0 l.hoists) h (one_of_them (hoists_reaching l m) (assigned_of path c k) h ride.hoist) in
     (below_count l.hoists h found.1, reaches_is l h m found.0)
 
-pub have_reach : (l : LineData) (s : Solved) (starts : List ℕ) → IsPlannable l s → HaveReach l (duties l s.tanks s.period starts s.hoists)
+pub have_reach : (l : LineData) (s : Solved) (starts : List ℕ) → IsPlannable l s
+    → HaveReach l (duties l s.tanks s.period starts s.hoists)
 have_reach l s starts x =
     let p = duties l s.tanks s.period starts s.hoists in
     let fixed = settled l s starts x in
     record { hoist = λ c k move. (reach_of l x.path p c k fixed move).0; reach = λ c k move. (reach_of l x.path p c k fixed move).1 }
 
 -- no two points that the plan fixes contradict one another
-pub they_agree : (l : LineData) (s : Solved) (starts : List ℕ) → IsLine l → IsPlannable l s → AreStarts l.load s.ticks starts
+pub they_agree : (l : LineData) (s : Solved) (starts : List ℕ) → IsLine l → IsPlannable l s
+    → AreStarts l.load s.ticks starts
     → Agree l (duties l s.tanks s.period starts s.hoists)
 they_agree l s starts line x are =
     let p = duties l s.tanks s.period starts s.hoists in
@@ -129,10 +135,12 @@ they_agree l s starts line x are =
 
 -- ---- the lists as a timetable
 
-tank_at : (l : LineData) (tanks : List ℕ) (c k steps : ℕ) → IsLine l → steps ≡ last_stage l → get_or tanks (c * (steps + 1) + k) 0 ≡ route_tank l tanks c k
+tank_at : (l : LineData) (tanks : List ℕ) (c k steps : ℕ) → IsLine l → steps ≡ last_stage l
+    → get_or tanks (c * (steps + 1) + k) 0 ≡ route_tank l tanks c k
 tank_at l tanks c k steps line e = ap (λ (n : ℕ). get_or tanks (c * n + k) 0) (omega (arith, e, line.limits.stages.0))
 
-move_is : (l : LineData) (xs : List ℕ) (c k steps : ℕ) → steps ≡ last_stage l → get_or xs (c * steps + k) 0 ≡ get_or xs (move_number l c k) 0
+move_is : (l : LineData) (xs : List ℕ) (c k steps : ℕ) → steps ≡ last_stage l
+    → get_or xs (c * steps + k) 0 ≡ get_or xs (move_number l c k) 0
 move_is l xs c k steps e = ap (λ (n : ℕ). get_or xs (c * n + k) 0) e
 
 first_is : (xs : List ℕ) (c n : ℕ) → get_or xs (c * n + 0) 0 ≡ get_or xs (c * n) 0
@@ -152,18 +160,21 @@ pub record AreParts (l : LineData) (s : Solved) (d : TimetableData) : Type 0 whe
   pub tank : d.tank ≡ s.tanks
   pub path : AreLowest l (duties l s.tanks s.period d.start s.hoists) d.path
 
-own_tank : (l : LineData) (s : Solved) (d : TimetableData) (c k : ℕ) → IsLine l → d.steps ≡ last_stage l → d.tank ≡ s.tanks
+own_tank : (l : LineData) (s : Solved) (d : TimetableData) (c k : ℕ) → IsLine l → d.steps ≡ last_stage l
+    → d.tank ≡ s.tanks
     → (timetable_of d).tank c k ≡ route_tank l s.tanks c k
 own_tank l s d c k line steps e = tank_at l d.tank c k d.steps line steps ∙ ap (λ (tanks : List ℕ). route_tank l tanks c k) e
 
-own_motion : (l : LineData) (s : Solved) (d : TimetableData) (c k : ℕ) → IsLine l → d.steps ≡ last_stage l → d.tank ≡ s.tanks
+own_motion : (l : LineData) (s : Solved) (d : TimetableData) (c k : ℕ) → IsLine l → d.steps ≡ last_stage l
+    → d.tank ≡ s.tanks
     → motion l (timetable_of d) c k ≡ motion l (duties l s.tanks s.period d.start s.hoists) c k
 own_motion l s d c k line steps e =
     let p = timetable_of d in
     motion_is l k (p.tank c k) (p.tank c (k + 1)) (route_tank l s.tanks c k) (route_tank l s.tanks c (k + 1)) (own_tank l s d c k line steps e)
     (own_tank l s d c (k + 1) line steps e)
 
-pub is_plan : (l : LineData) (s : Solved) (d : TimetableData) → IsLine l → IsPlannable l s → AreParts l s d → IsPlan l s d
+pub is_plan : (l : LineData) (s : Solved) (d : TimetableData) → IsLine l → IsPlannable l s → AreParts l s d
+    → IsPlan l s d
 is_plan l s d line x parts =
     let p = timetable_of d in
     let n : ℕ = last_step l in
@@ -181,11 +192,13 @@ is_plan l s d line x parts =
     }
 
 -- a list by carrier whose entries are small
-small_list : (xs : List ℕ) (count bound i : ℕ) → length xs ≡ count → ((c : ℕ) → c < count → get_or xs c 0 ≤ bound) → get_or xs i 0 ≤ bound
+small_list : (xs : List ℕ) (count bound i : ℕ) → length xs ≡ count → ((c : ℕ) → c < count → get_or xs c 0 ≤ bound)
+    → get_or xs i 0 ≤ bound
 small_list xs count bound i long small =
     ⊎_elim (λ lt. small i lt) (λ past. omega (arith, get_or_past xs i 0 (omega (arith, past, long)))) (cases_lt i count)
 
-pub is_timetable : (l : LineData) (s : Solved) (d : TimetableData) → IsLine l → IsPlannable l s → AreParts l s d → IsTimetableOf l d
+pub is_timetable : (l : LineData) (s : Solved) (d : TimetableData) → IsLine l → IsPlannable l s → AreParts l s d
+    → IsTimetableOf l d
 is_timetable l s d line x parts =
     let q = duties l s.tanks s.period d.start s.hoists in
     let n : ℕ = last_step l in
@@ -224,7 +237,8 @@ is_timetable l s d line x parts =
 
 -- ---- the plan is legal
 
-pub plan_is_legal : (l : LineData) (s : Solved) (d : TimetableData) → IsLine l → IsPlannable l s → d.steps ≡ last_stage l → IsPlan l s d
+pub plan_is_legal : (l : LineData) (s : Solved) (d : TimetableData) → IsLine l → IsPlannable l s
+    → d.steps ≡ last_stage l → IsPlan l s d
     → IsLegal l (timetable_of d)
 plan_is_legal l s d line x steps plan =
     let p = timetable_of d in
@@ -264,5 +278,6 @@ plan_is_legal l s d line x steps plan =
     let starts : Starts l p (tick_at s.ticks) = record { start = plan.start; put = plan.put; off = plan.off } in
     is_legal l x.path p (tick_at s.ticks) line (omega (arith, plan.period, x.period.0)) own clock starts follows
 
-pub small_path : (l : LineData) (s : Solved) (d : TimetableData) (i : ℕ) → IsLine l → IsPlan l s d → get_or d.path i 0 ≤ 1000
+pub small_path : (l : LineData) (s : Solved) (d : TimetableData) (i : ℕ) → IsLine l → IsPlan l s d
+    → get_or d.path i 0 ≤ 1000
 small_path l s d i line plan = omega (arith, plan.paths.small i, line.limits.track.1)

@@ -1,4 +1,5 @@
--- Moves that start apart enough: no hoist carries twice, and no two of the points that moves fix contradict one another.
+-- Moves that start apart enough: no hoist carries twice, and no two of the points that moves fix contradict one
+-- another.
 use Rattle.std.proofs.Common.{⊎_elim, ◌≡◌, ℕ, suc, ◌+◌, ◌-◌, ◌*◌, ◌<◌, ◌≤◌, List, refl, sym, ap, subst, ℤ, pos, ◌+ℤ◌, ◌-ℤ◌, ◌*ℤ◌, neg_ℤ, ◌<ℤ◌, ◌≤ℤ◌, arith, Some, None}
 use Rattle.std.specs.Prelude.{Option, IsSome, IsSomeAnd, unsigned_abs}
 use Rattle.std.specs.Int.{abs_diff}
@@ -43,7 +44,8 @@ forbidden_fails : (o : Option Span) (Holds : ℤ → Type 0) (z : ℤ) → IsSpa
 forbidden_fails None Holds z span h = absurd (span z h)
 forbidden_fails (Some s) Holds z span h = (refl, (span z).0 h)
 
-pub start_apart : (l : LineData) (path : List Decision) (p : Timetable) (ticks : ℕ → ℤ) → IsLine l → Settled l path p → Timed l path ticks p.period
+pub start_apart : (l : LineData) (path : List Decision) (p : Timetable) (ticks : ℕ → ℤ) → IsLine l → Settled l path p
+    → Timed l path ticks p.period
     → ((c k : ℕ) → IsMove l c k → pos (p.start c k) ≡ ticks (move_number l c k) +ℤ pos l.load) → StartApart l p
 start_apart l path p ticks line s t starts = record {
   repeat = λ c k move. repeat_row l path p ticks p.period c k s t move;
@@ -67,7 +69,8 @@ start_apart l path p ticks line s t starts = record {
       t.orders (HoistOrder a b q) tt (record { first = move; second = move'; before = before; clash = found.0 }) found.1;
 }
   where
-    same : (s s' : ℕ) (t t' ahead : ℤ) (load : ℕ) → pos s ≡ t +ℤ pos load → pos s' ≡ t' +ℤ pos load → (pos s' +ℤ ahead) -ℤ pos s ≡ (t' +ℤ ahead) -ℤ t
+    same : (s s' : ℕ) (t t' ahead : ℤ) (load : ℕ) → pos s ≡ t +ℤ pos load → pos s' ≡ t' +ℤ pos load
+        → (pos s' +ℤ ahead) -ℤ pos s ≡ (t' +ℤ ahead) -ℤ t
     same s s' t t' ahead load e f = omega (arith, ints, e, f)
 
 -- ---- one move, again and again
@@ -112,13 +115,15 @@ slow_self m u v w le =
     (cases_lt u v)
 
 -- from tick u of a motion to tick v of the same motion a period later
-pub slow_copy : (m : Motion) (u v period w : ℕ) → u ≤ duration m → v ≤ duration m → there_and_back m ≤ period → period + v ≤ w + u → Slow m u v w
+pub slow_copy : (m : Motion) (u v period w : ℕ) → u ≤ duration m → v ≤ duration m → there_and_back m ≤ period
+    → period + v ≤ w + u → Slow m u v w
 slow_copy m u v period w le le' fits far =
     let a = goes_slowly m u (duration m) le in
     let b = goes_slowly m 0 v (omega arith) in
     slow (place m u) (place m v) m.from m.to u v (duration m) (place m 0) (place m (duration m)) period w (at_start m) (at_end m) a.0 a.1 b.0 b.1 fits far le
   where
-    slow : (x y from to u v d first last period w : ℕ) → first ≡ from → last ≡ to → last ≤ x + (d - u) → x ≤ last + (d - u) → y ≤ first + (v - 0)
+    slow : (x y from to u v d first last period w : ℕ) → first ≡ from → last ≡ to → last ≤ x + (d - u)
+        → x ≤ last + (d - u) → y ≤ first + (v - 0)
         → first ≤ y + (v - 0)
         → d + abs_diff to from ≤ period → period + v ≤ w + u → u ≤ d → abs_diff x y ≤ w
     slow x y from to u v d first last period w e f a a' b b' fits far le = omega (arith, e, f, a, a', b, b', fits, far, le)

@@ -34,7 +34,8 @@ less_one period = omega (arith, ints, times_back (pos 1) period)
 in_period : (t : ℕ → ℤ) (period from to : ℕ) (w : ℤ) → Keeps t period (arc from to w (pos 0)) → (t from +ℤ w) ≤ℤ t to
 in_period t period from to w h = omega (arith, ints, h)
 
-in_next : (t : ℕ → ℤ) (period from to : ℕ) (w : ℤ) → Keeps t period (arc from to w (negsuc 0)) → (t from +ℤ w) ≤ℤ (t to +ℤ pos period)
+in_next : (t : ℕ → ℤ) (period from to : ℕ) (w : ℤ) → Keeps t period (arc from to w (negsuc 0))
+    → (t from +ℤ w) ≤ℤ (t to +ℤ pos period)
 in_next t period from to w h = omega (arith, ints, h, less_one period)
 
 -- what holds of the step before the next one holds of this one
@@ -43,7 +44,8 @@ at_before P k h = subst P (omega arith) h
 
 -- ---- windows
 
-pub least_row : (l : LineData) (path : List Decision) (p : Timetable) (ticks : ℕ → ℤ) (period c k : ℕ) → Settled l path p → Timed l path ticks period
+pub least_row : (l : LineData) (path : List Decision) (p : Timetable) (ticks : ℕ → ℤ) (period c k : ℕ)
+    → Settled l path p → Timed l path ticks period
     → IsMove l c (k + 1)
     → (ticks (move_number l c k) +ℤ pos (duration (motion l p c k) + (stage l (k + 1)).min)) ≤ℤ ticks (move_number l c (k + 1))
 least_row l path p ticks period c k s t move =
@@ -55,11 +57,13 @@ least_row l path p ticks period c k s t move =
     let Q : ℕ → Type 0 = λ d. (ticks (move_number l c k) +ℤ pos (d + (stage l (k + 1)).min)) ≤ℤ ticks (move_number l c (k + 1)) in
     subst Q (low_own l path p c k s (move.0, omega (arith, move.1))) (at_before P k h)
 
-bounded : (o : Option ℕ) (a b : ℤ) (d : ℕ) → (IsSome o → (a +ℤ neg_ℤ (pos (d + unwrap_or o 0))) ≤ℤ b) → IfSome o (λ m. a ≤ℤ (b +ℤ pos (d + m)))
+bounded : (o : Option ℕ) (a b : ℤ) (d : ℕ) → (IsSome o → (a +ℤ neg_ℤ (pos (d + unwrap_or o 0))) ≤ℤ b)
+    → IfSome o (λ m. a ≤ℤ (b +ℤ pos (d + m)))
 bounded None a b d h = tt
 bounded (Some m) a b d h = omega (arith, ints, h refl)
 
-pub greatest_row : (l : LineData) (path : List Decision) (p : Timetable) (ticks : ℕ → ℤ) (period c k : ℕ) → Settled l path p → Timed l path ticks period
+pub greatest_row : (l : LineData) (path : List Decision) (p : Timetable) (ticks : ℕ → ℤ) (period c k : ℕ)
+    → Settled l path p → Timed l path ticks period
     → IsMove l c (k + 1)
     → IfSome (stage l (k + 1)).max (λ m. ticks (move_number l c (k + 1)) ≤ℤ (ticks (move_number l c k) +ℤ pos (duration (motion l p c k) + m)))
 greatest_row l path p ticks period c k s t move =
@@ -76,7 +80,8 @@ greatest_row l path p ticks period c k s t move =
 
 -- ---- entry
 
-pub entry_row : (l : LineData) (path : List Decision) (ticks : ℕ → ℤ) (period c : ℕ) → Timed l path ticks period → c + 1 < l.degree
+pub entry_row : (l : LineData) (path : List Decision) (ticks : ℕ → ℤ) (period c : ℕ) → Timed l path ticks period
+    → c + 1 < l.degree
     → (ticks (move_number l c 0) +ℤ pos (l.load + (stage l 0).lift)) ≤ℤ ticks (move_number l (c + 1) 0)
 entry_row l path ticks period c t lt =
     let w : ℤ = pos (l.load + (stage l 0).lift) in
@@ -86,7 +91,8 @@ entry_row l path ticks period c t lt =
     let K : Arc → Type 0 = λ a. Keeps ticks period a in
     in_period ticks period (move_number l c 0) (move_number l (c + 1) 0) w (subst K e (t.constraints (Entry c) tt (omega (arith, lt))))
 
-pub around_row : (l : LineData) (path : List Decision) (ticks : ℕ → ℤ) (period c : ℕ) → Timed l path ticks period → c + 1 ≡ l.degree
+pub around_row : (l : LineData) (path : List Decision) (ticks : ℕ → ℤ) (period c : ℕ) → Timed l path ticks period
+    → c + 1 ≡ l.degree
     → (ticks (move_number l c 0) +ℤ pos (l.load + (stage l 0).lift)) ≤ℤ (ticks 0 +ℤ pos period)
 around_row l path ticks period c t last =
     let w : ℤ = pos (l.load + (stage l 0).lift) in
@@ -98,9 +104,11 @@ around_row l path ticks period c t last =
 
 -- ---- visits
 
-pub visit_row : (l : LineData) (path : List Decision) (p : Timetable) (ticks : ℕ → ℤ) (period c k : ℕ) → Settled l path p → Timed l path ticks period
+pub visit_row : (l : LineData) (path : List Decision) (p : Timetable) (ticks : ℕ → ℤ) (period c k : ℕ)
+    → Settled l path p → Timed l path ticks period
     → IsMove l c (k + 1)
-    → (ticks (move_number l c (k + 1)) +ℤ pos ((stage l (k + 1)).lift + (stage l (k + 1)).lower)) ≤ℤ (ticks (move_number l c k) +ℤ pos (duration (motion l p c k) + period))
+    → (ticks (move_number l c (k + 1)) +ℤ pos ((stage l (k + 1)).lift + (stage l (k + 1)).lower)) ≤ℤ
+    (ticks (move_number l c k) +ℤ pos (duration (motion l p c k) + period))
 visit_row l path p ticks period c k s t move =
     let is : IsConstraint l path (Visit c (k + 1)) = (move.0, omega arith, omega (arith, move.1)) in
     let times : ℕ = (stage l (k + 1)).lift + (stage l (k + 1)).lower in
@@ -117,7 +125,8 @@ visit_row l path p ticks period c k s t move =
     cleared (ticks (move_number l c (k + 1))) (ticks (move_number l c k)) times (duration (motion l p c k)) period
     (subst Q (high_own l path p c k s (move.0, omega (arith, move.1))) (at_before P k h))
   where
-    cleared : (a b : ℤ) (n d period : ℕ) → (a +ℤ (pos n -ℤ pos d)) ≤ℤ (b +ℤ pos period) → (a +ℤ pos n) ≤ℤ (b +ℤ pos (d + period))
+    cleared : (a b : ℤ) (n d period : ℕ) → (a +ℤ (pos n -ℤ pos d)) ≤ℤ (b +ℤ pos period)
+        → (a +ℤ pos n) ≤ℤ (b +ℤ pos (d + period))
     cleared a b n d period h = omega (arith, ints, h)
 
 pub last_row : (l : LineData) (path : List Decision) (ticks : ℕ → ℤ) (period : ℕ) → IsLine l → Timed l path ticks period
@@ -139,7 +148,8 @@ last_row l path ticks period line t =
 
 -- ---- repeat
 
-pub repeat_row : (l : LineData) (path : List Decision) (p : Timetable) (ticks : ℕ → ℤ) (period c k : ℕ) → Settled l path p → Timed l path ticks period
+pub repeat_row : (l : LineData) (path : List Decision) (p : Timetable) (ticks : ℕ → ℤ) (period c k : ℕ)
+    → Settled l path p → Timed l path ticks period
     → IsMove l c k → there_and_back (motion l p c k) ≤ period
 repeat_row l path p ticks period c k s t move =
     let is : IsConstraint l path (Repeat c k) = (move.0, omega (arith, move.1)) in

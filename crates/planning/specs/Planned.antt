@@ -9,14 +9,15 @@ use Rattle.node_expand.specs.declared.solved.Solved.{Solved}
 use Rattle.path_envelope.specs.Duties.{duties}
 use Rattle.path_envelope.specs.Envelope.{AreLowest}
 
--- Period, tanks and hoists are those of the solved path. Every move starts the load time after its tick, so that the first
--- carrier is put on at tick 0. A carrier is put on the load time before its first move starts, and taken off the unload time
--- after its last move has ended. The hoists are as low as their moves let them be.
+-- Period, tanks and hoists are those of the solved path. Every move starts the load time after its tick, so that the
+-- first carrier is put on at tick 0. A carrier is put on the load time before its first move starts, and taken off the
+-- unload time after its last move has ended. The hoists are as low as their moves let them be.
 pub record IsPlan (l : LineData) (s : Solved) (d : TimetableData) : Type 0 where
   pub period : d.period ≡ s.period
   pub tanks : d.tank ≡ s.tanks
   pub hoists : d.hoist ≡ s.hoists
-  pub start : (c k : ℕ) → IsMove l c k → pos ((timetable_of d).start c k) ≡ tick_at s.ticks (move_number l c k) +ℤ pos l.load
+  pub start : (c k : ℕ) → IsMove l c k
+      → pos ((timetable_of d).start c k) ≡ tick_at s.ticks (move_number l c k) +ℤ pos l.load
   pub put : (c : ℕ) → c < l.degree → (timetable_of d).put c + l.load ≡ (timetable_of d).start c 0
   pub off : (c : ℕ) → c < l.degree
       → (timetable_of d).off c

@@ -18,8 +18,10 @@ abbrev answer_with : Verdict → ℕ → ℕ → Option TimetableData → List N
 answer_with verdict bound splits timetable tree =
     record { verdict = verdict; bound = bound; splits = splits; timetable = timetable; tree = tree }
 
-claims : (l : LineData) (verdict : Verdict) (bound splits : ℕ) (timetable : Option TimetableData) (tree : List Node) → IsLine l
-    → IsClaim l verdict timetable bound → IfSome timetable (λ t. IsLegal l (timetable_of t)) → NoneBelow l bound → Proves l tree bound
+claims : (l : LineData) (verdict : Verdict) (bound splits : ℕ) (timetable : Option TimetableData) (tree : List Node)
+    → IsLine l
+    → IsClaim l verdict timetable bound → IfSome timetable (λ t. IsLegal l (timetable_of t)) → NoneBelow l bound
+    → Proves l tree bound
     → ClaimBy l verdict (answer_with verdict bound splits timetable tree)
 claims l Optimal bound splits None tree line claim legal none proves = absurd claim
 claims l Optimal bound splits (Some t) tree line claim legal none proves = record {

@@ -13,7 +13,8 @@ use Rattle.prove_cli.specs.Reply.{IsReply}
 use Rattle.prove_cli.proofs.Claims.{claim_kept}
 
 -- the meaning of a status is that of any that equals it
-means : (status s : Status) (r : Reading) (words : List (List ℕ)) (old new : Option (List ℕ)) → status ≡ s → Means s r words old new
+means : (status s : Status) (r : Reading) (words : List (List ℕ)) (old new : Option (List ℕ)) → status ≡ s
+    → Means s r words old new
     → Means status r words old new
 means status s r words old new e is = subst (λ x. Means x r words old new) (sym e) is
 
@@ -27,13 +28,15 @@ stop_means : (r : Reading) (words : List (List ℕ)) (old new : Option (List ℕ
 stop_means r words old new name status text is =
     ⊎_elim (λ x. file_means r words old new name status text x) (λ (why, refused, (e, _)). means status statuses.Line r words old new e tt) is
 
-verdict_means : (v : Verdict) (r : Reading) (words : List (List ℕ)) (old new : Option (List ℕ)) → IsProveRun v r words old new
+verdict_means : (v : Verdict) (r : Reading) (words : List (List ℕ)) (old new : Option (List ℕ))
+    → IsProveRun v r words old new
     → Means (status_of v) r words old new
 verdict_means Optimal r words old new run = run
 verdict_means Nothing r words old new run = run
 verdict_means Unfinished r words old new run = run
 
-pub reply_means : (r : Reading) (words : List (List ℕ)) (old new : Option (List ℕ)) (status : Status) (text : List ℕ) → new ≡ appended old text
+pub reply_means : (r : Reading) (words : List (List ℕ)) (old new : Option (List ℕ)) (status : Status) (text : List ℕ)
+    → new ≡ appended old text
     → IsReply r words status text → Means status r words old new
 reply_means r words old new status text written is =
     ⊎_elim (λ (nothing, e, _). means status statuses.Words r words old new e nothing)
@@ -59,7 +62,8 @@ reply_means r words old new status text written is =
     is
 
 -- a printed status means what it says
-pub means_by : (r : Reading) (words : List (List ℕ)) (old new : Option (List ℕ)) (status s : Status) (text : List ℕ) → new ≡ appended old text
+pub means_by : (r : Reading) (words : List (List ℕ)) (old new : Option (List ℕ)) (status s : Status) (text : List ℕ)
+    → new ≡ appended old text
     → IsReply r words status text → status ≡ s → Means s r words old new
 means_by r words old new status s text written is e = subst (λ x. Means x r words old new) e (reply_means r words old new status text written is)
 
@@ -74,6 +78,7 @@ prefix_of r words old new status text shown is e part =
     inr (status, text, n, is, le, written)
 
 -- where the words ask for nothing the status says so
-pub nothing_asked : (r : Reading) (words : List (List ℕ)) (status : Status) (text : List ℕ) → IsReply r words status text → AskNoProof words
+pub nothing_asked : (r : Reading) (words : List (List ℕ)) (status : Status) (text : List ℕ)
+    → IsReply r words status text → AskNoProof words
     → status ≡ statuses.Words
 nothing_asked r words status text is nothing = ⊎_elim (λ (_, e, _). e) (λ (file, nodes, asks, _). absurd (nothing file nodes asks)) is

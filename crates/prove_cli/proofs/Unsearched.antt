@@ -39,7 +39,8 @@ is_open l a (o, grown, is) =
     is.verdict ∙ ap (λ (n : ℕ). verdict_by n o.best) one
 
 -- its text can be read, and it keeps all rules
-pub unsearched_kept : (l : LineData) (a : Answer) (text : List ℕ) → IsLine l → IsSolution l 0 a → IsWritable l a → KeepsRules l a
+pub unsearched_kept : (l : LineData) (a : Answer) (text : List ℕ) → IsLine l → IsSolution l 0 a → IsWritable l a
+    → KeepsRules l a
     → text ≡ answer_text l a → IsKept l text a
 unsearched_kept l a text line solution writable rules is =
     let root = root_alone l a solution in

@@ -12,8 +12,8 @@ use Rattle.hoist_cli.specs.Reading.{Reading, IsLineIn}
 use Rattle.prove_words.specs.Request.{AsksProof, AskNoProof}
 use Rattle.prove_cli.specs.Proved.{IsKept, ClaimBy}
 
--- the words ask for a proof for the line of a file, and the text of an answer to it was printed that keeps every rule, has
--- this verdict, and keeps what it claims by it
+-- the words ask for a proof for the line of a file, and the text of an answer to it was printed that keeps every rule,
+-- has this verdict, and keeps what it claims by it
 pub record IsProveRun (verdict : Verdict) (r : Reading) (words : List (List ℕ)) (old new : Option (List ℕ)) : Type 0 where
   pub file : List ℕ
   pub nodes : ℕ

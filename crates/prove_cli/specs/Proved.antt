@@ -13,14 +13,15 @@ use Rattle.solve_line.specs.Claims.{IsOptimal, IsNothing}
 use Rattle.hoist_cli.specs.Reading.{Replies, answer_limit}
 use Rattle.hoist_cli.specs.Solved.{status_of}
 
--- the bytes are no more than an answer file may have, and the text of this answer to the line, which keeps every rule of the
--- checker
+-- the bytes are no more than an answer file may have, and the text of this answer to the line, which keeps every rule
+-- of the checker
 pub record IsKept (l : LineData) (bytes : List ℕ) (a : Answer) : Type 0 where
   pub small : length bytes ≤ answer_limit
   pub text : IsTextOf l bytes a
   pub rules : KeepsRules l a
 
--- no legal timetable has a period below the bound, which the tree proves, and the timetable, where there is one, is legal
+-- no legal timetable has a period below the bound, which the tree proves, and the timetable, where there is one, is
+-- legal
 pub record IsOpenAnswer (l : LineData) (a : Answer) : Type 0 where
   pub legal : IfSome a.timetable (λ t. IsLegal l (timetable_of t))
   pub none_below : NoneBelow l a.bound
@@ -32,6 +33,7 @@ ClaimBy l Optimal a = IsOptimal l a
 ClaimBy l Nothing a = IsNothing l a
 ClaimBy l Unfinished a = IsOpenAnswer l a
 
--- the text of an answer that keeps every rule, with the status of its verdict; no legal timetable has a period below its bound
+-- the text of an answer that keeps every rule, with the status of its verdict; no legal timetable has a period below
+-- its bound
 abbrev pub IsProved : LineData → Replies
 IsProved l status text = (a : Answer) × IsKept l text a × NoneBelow l a.bound × (status ≡ status_of a.verdict)

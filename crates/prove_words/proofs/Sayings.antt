@@ -10,7 +10,8 @@ joined value = codes "--nodes=" ++ value
 
 -- ---- how many words they are
 
-option_count : (option : List (List ℕ)) (value : List ℕ) → IsOption option value → (1 ≤ length option) × (length option ≤ 2)
+option_count : (option : List (List ℕ)) (value : List ℕ) → IsOption option value
+    → (1 ≤ length option) × (length option ≤ 2)
 option_count option value (inl e) = let n : length option ≡ 1 = ap length e in (omega (arith, n), omega (arith, n))
 option_count option value (inr e) = let n : length option ≡ 2 = ap length e in (omega (arith, n), omega (arith, n))
 
@@ -66,7 +67,8 @@ ThreeSay a b c file values =
     (v : List ℕ) × (values ≡ v ∷ [])
     × (((file ≡ a) × (b ≡ codes "--nodes") × (c ≡ v)) ⊎ ((a ≡ codes "--nodes") × (b ≡ v) × (file ≡ c)))
 
-three_say : (a b c file : List ℕ) (values : List (List ℕ)) → Say (a ∷ b ∷ c ∷ []) file values → ThreeSay a b c file values
+three_say : (a b c file : List ℕ) (values : List (List ℕ)) → Say (a ∷ b ∷ c ∷ []) file values
+    → ThreeSay a b c file values
 three_say a b c file [] e = let n : 3 ≡ 1 = ap length e in absurd (omega (arith, n))
 three_say a b c file (v ∷ []) (option, inl o, inl e) =
     let n : 3 ≡ 2 = ap length (e ∙ ap (λ (os : List (List ℕ)). file ∷ os) o) in absurd (omega (arith, n))
@@ -98,7 +100,8 @@ SayOnly words a v =
 one_value : (u v : List ℕ) (values : List (List ℕ)) → values ≡ u ∷ [] → u ≡ v → values ≡ v ∷ []
 one_value u v values is e = is ∙ ap (λ (w : List ℕ). w ∷ []) e
 
-joined_first_only : (a b v file : List ℕ) (values : List (List ℕ)) → a ≡ joined v → IsFileName file → TwoSay a b file values
+joined_first_only : (a b v file : List ℕ) (values : List (List ℕ)) → a ≡ joined v → IsFileName file
+    → TwoSay a b file values
     → (file ≡ b) × (values ≡ v ∷ [])
 joined_first_only a b v file values e name (u, is, inl (f, g)) = absurd (dashed a _ e (subst IsFileName f name))
 joined_first_only a b v file values e name (u, is, inr (f, g)) = (g, one_value u v values is (same_value u v (sym f ∙ e)))
@@ -109,18 +112,21 @@ joined_first a b v e = (
   λ file values say name. joined_first_only a b v file values e name (two_say a b file values say),
 )
 
-joined_last_only : (a b v file : List ℕ) (values : List (List ℕ)) → ((u : List ℕ) → a ≡ joined u → ⊥) → b ≡ joined v → TwoSay a b file values
+joined_last_only : (a b v file : List ℕ) (values : List (List ℕ)) → ((u : List ℕ) → a ≡ joined u → ⊥) → b ≡ joined v
+    → TwoSay a b file values
     → (file ≡ a) × (values ≡ v ∷ [])
 joined_last_only a b v file values never e (u, is, inl (f, g)) = (f, one_value u v values is (same_value u v (sym g ∙ e)))
 joined_last_only a b v file values never e (u, is, inr (f, g)) = absurd (never u f)
 
-pub joined_last : (a b v : List ℕ) → ((u : List ℕ) → a ≡ codes "--nodes=" ++ u → ⊥) → b ≡ codes "--nodes=" ++ v → SayOnly (a ∷ b ∷ []) a v
+pub joined_last : (a b v : List ℕ) → ((u : List ℕ) → a ≡ codes "--nodes=" ++ u → ⊥) → b ≡ codes "--nodes=" ++ v
+    → SayOnly (a ∷ b ∷ []) a v
 joined_last a b v never e = (
   (joined v ∷ [], inl refl, inl (ap (λ (x : List ℕ). a ∷ x ∷ []) e)),
   λ file values say name. joined_last_only a b v file values never e (two_say a b file values say),
 )
 
-opening_first_only : (a b c file : List ℕ) (values : List (List ℕ)) → a ≡ codes "--nodes" → IsFileName file → ThreeSay a b c file values
+opening_first_only : (a b c file : List ℕ) (values : List (List ℕ)) → a ≡ codes "--nodes" → IsFileName file
+    → ThreeSay a b c file values
     → (file ≡ c) × (values ≡ b ∷ [])
 opening_first_only a b c file values e name (u, is, inl (f, g, h)) = absurd (dashed a _ e (subst IsFileName f name))
 opening_first_only a b c file values e name (u, is, inr (f, g, h)) = (h, one_value u b values is (sym g))
@@ -131,7 +137,8 @@ opening_first a b c e = (
   λ file values say name. opening_first_only a b c file values e name (three_say a b c file values say),
 )
 
-opening_middle_only : (a b c file : List ℕ) (values : List (List ℕ)) → (a ≡ codes "--nodes" → ⊥) → ThreeSay a b c file values
+opening_middle_only : (a b c file : List ℕ) (values : List (List ℕ)) → (a ≡ codes "--nodes" → ⊥)
+    → ThreeSay a b c file values
     → (file ≡ a) × (values ≡ c ∷ [])
 opening_middle_only a b c file values never (u, is, inl (f, g, h)) = (f, one_value u c values is (sym h))
 opening_middle_only a b c file values never (u, is, inr (f, g, h)) = absurd (never f)

@@ -11,7 +11,8 @@ use Rattle.prove_words.specs.declared.words.FileWithValue.{FileWithValue}
 abbrev pub IsOption : List (List ℕ) → List ℕ → Type 0
 IsOption option value = (option ≡ (codes "--nodes=" ++ value) ∷ []) ⊎ (option ≡ codes "--nodes" ∷ value ∷ [])
 
--- the words are a file, and before or behind it the option, with the one value of these; or a file alone where there is none
+-- the words are a file, and before or behind it the option, with the one value of these; or a file alone where there is
+-- none
 abbrev pub Say : List (List ℕ) → List ℕ → List (List ℕ) → Type 0
 Say words file [] = words ≡ file ∷ []
 Say words file (value ∷ []) =
@@ -25,8 +26,8 @@ default_nodes = 300000
 abbrev pub most_nodes : ℕ
 most_nodes = 1000000000
 
--- the words ask for a proof for the line of a file, whose search expands so many nodes at most: the option is given at most
--- once, with a number in its decimal digits
+-- the words ask for a proof for the line of a file, whose search expands so many nodes at most: the option is given at
+-- most once, with a number in its decimal digits
 pub record AsksProof (words : List (List ℕ)) (file : List ℕ) (nodes : ℕ) : Type 0 where
   pub values : List (List ℕ)
   pub say : Say (drop 1 words) file values

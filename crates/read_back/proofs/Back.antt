@@ -19,7 +19,8 @@ use Rattle.read_back.specs.Laws.{TextIsRead, RulesAreKept}
 use Rattle.read_back.proofs.Twins.{proves_too, none_left_too, some_left_too}
 use Rattle.read_back.proofs.Counts.{splits_said}
 
-left_too : (l : LineData) (a b : Answer) (v : Verdict) → IsAnswer l a → IsAnswer l b → SayTheSame a b → HasItsLeft a v → HasItsLeft b v
+left_too : (l : LineData) (a b : Answer) (v : Verdict) → IsAnswer l a → IsAnswer l b → SayTheSame a b → HasItsLeft a v
+    → HasItsLeft b v
 left_too l a b Optimal f g same left = none_left_too a.tree b.tree f.tree g.tree same.tree left
 left_too l a b Nothing f g same left = none_left_too a.tree b.tree f.tree g.tree same.tree left
 left_too l a b Unfinished f g same left = some_left_too a.tree b.tree f.tree g.tree same.tree left

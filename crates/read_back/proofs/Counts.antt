@@ -109,7 +109,8 @@ held_once w k (x ∷ xs) distinct c =
     (cases_eq x k)
 
 -- a list with each number below n once
-pub each_once : (w : ℕ → ℕ) (n : ℕ) (xs : List ℕ) → All (λ x. x < n) xs → AreDistinct xs → ((k : ℕ) → k < n → Contains xs k) → weigh w xs ≡ sum_below w n
+pub each_once : (w : ℕ → ℕ) (n : ℕ) (xs : List ℕ) → All (λ x. x < n) xs → AreDistinct xs
+    → ((k : ℕ) → k < n → Contains xs k) → weigh w xs ≡ sum_below w n
 each_once w n xs below distinct all =
     by_numbers w n xs below ∙ sum_same (λ k. held w k xs) w n (λ k lt. held_once w k xs distinct (all k lt))
 
@@ -130,7 +131,8 @@ take_next : (p : Node → Bool) (nodes : List Node) (n : ℕ) (b : Bool) → n <
 take_next p nodes n true lt e = count_by_more_yes p nodes n (Left None) lt e
 take_next p nodes n false lt e = omega (arith, count_by_more_no p nodes n (Left None) lt e)
 
-count_below : (p : Node → Bool) (nodes : List Node) (n : ℕ) → n ≤ length nodes → count_by p (take n nodes) ≡ sum_below (λ i. unit (p (node_at nodes i))) n
+count_below : (p : Node → Bool) (nodes : List Node) (n : ℕ) → n ≤ length nodes
+    → count_by p (take n nodes) ≡ sum_below (λ i. unit (p (node_at nodes i))) n
 count_below p nodes zero le = refl
 count_below p nodes (suc n) le =
     let e : suc n ≡ n + 1 = omega arith in
@@ -143,7 +145,8 @@ weigh_same v w [] h = refl
 weigh_same v w (x ∷ xs) h = omega (arith, h x, weigh_same v w xs h)
 
 -- the splits of a tree, node by node in preorder
-pub splits_weighed : (nodes : List Node) → IsTree nodes → weigh (λ i. unit (is_split (node_at nodes i))) (preorder nodes) ≡ split_count nodes
+pub splits_weighed : (nodes : List Node) → IsTree nodes
+    → weigh (λ i. unit (is_split (node_at nodes i))) (preorder nodes) ≡ split_count nodes
 splits_weighed nodes tree =
     let w : ℕ → ℕ = λ i. unit (is_split (node_at nodes i)) in
     let there : (k : ℕ) → k < length nodes → Contains (preorder nodes) k =

@@ -47,7 +47,8 @@ pair_short : (c k : ℕ) → c ≤ 1000000000 → k ≤ 1000000000 → length (p
 pair_short c k le small =
     omega (arith, length-append (decimal c) (codes " " ++ decimal k), length-append (codes " ") (decimal k), digits c le, digits k small)
 
-pieces : {X : Type 0} (f : X → List ℕ) (m : ℕ) (xs : List X) → All (λ x. length (f x) ≤ m) xs → length (flat_map f xs) ≤ length xs * m
+pieces : {X : Type 0} (f : X → List ℕ) (m : ℕ) (xs : List X) → All (λ x. length (f x) ≤ m) xs
+    → length (flat_map f xs) ≤ length xs * m
 pieces f m xs h = omega (arith, length-flat_map f xs, sum_by-le (λ x. length (f x)) m xs h)
 
 all_range : (P : ℕ → Type 0) (a n : ℕ) → ((k : ℕ) → a ≤ k → k < a + n → P k) → All P (range_with_len a n)
@@ -55,7 +56,8 @@ all_range P a zero h = All-nil P
 all_range P a (suc n) h =
     All-cons P a (range_with_len (a + 1) n) (h a (omega arith) (omega arith)) (all_range P (a + 1) n (λ k le lt. h k (omega (arith, le)) (omega (arith, lt))))
 
-each_short : (count most m : ℕ) (line : ℕ → List ℕ) → count ≤ most → ((k : ℕ) → k < count → length (line k) ≤ m) → length (each_below count line) ≤ count * m
+each_short : (count most m : ℕ) (line : ℕ → List ℕ) → count ≤ most → ((k : ℕ) → k < count → length (line k) ≤ m)
+    → length (each_below count line) ≤ count * m
 each_short count most m line few h =
     let range = range_with_len 0 count in
     let le = pieces line m range (all_range (λ k. length (line k) ≤ m) 0 count (λ k low lt. h k (omega (arith, lt)))) in
@@ -114,7 +116,8 @@ shift_short : (q : ℤ) → unsigned_abs q ≤ 1000000000 → length (signed_dec
 shift_short (pos n) le = length_signed_le 10 (pos n) (omega (arith, le)) (omega (arith, le))
 shift_short (negsuc n) le = length_signed_le 10 (negsuc n) (omega (arith, le)) (omega (arith, le))
 
-counted_short : (c k n : ℕ) → c ≤ 1000000000 → k ≤ 1000000000 → n ≤ 1000000000 → length (pair_text c k ++ (codes " " ++ (decimal n ++ end))) ≤ 40
+counted_short : (c k n : ℕ) → c ≤ 1000000000 → k ≤ 1000000000 → n ≤ 1000000000
+    → length (pair_text c k ++ (codes " " ++ (decimal n ++ end))) ≤ 40
 counted_short c k n a b d =
     omega (
       arith,
@@ -125,7 +128,8 @@ counted_short c k n a b d =
       digits n d,
     )
 
-order_short : (c k d m : ℕ) (q : ℤ) → c ≤ 1000000000 → k ≤ 1000000000 → d ≤ 1000000000 → m ≤ 1000000000 → unsigned_abs q ≤ 1000000000
+order_short : (c k d m : ℕ) (q : ℤ) → c ≤ 1000000000 → k ≤ 1000000000 → d ≤ 1000000000 → m ≤ 1000000000
+    → unsigned_abs q ≤ 1000000000
     → length (pair_text c k ++ (codes " " ++ (pair_text d m ++ (codes " " ++ (signed_decimal q ++ end))))) ≤ 60
 order_short c k d m q a b e f g =
     omega (
@@ -140,7 +144,8 @@ order_short c k d m q a b e f g =
       shift_short q g,
     )
 
-question_short : (single : Bool) (question : Question) (n : ℕ) → IsQuestionText single question n → length (question_text question n) ≤ 80
+question_short : (single : Bool) (question : Question) (n : ℕ) → IsQuestionText single question n
+    → length (question_text question n) ≤ 80
 question_short single (Choose v) n f =
     omega (
       arith,
@@ -221,7 +226,8 @@ few_nodes nodes tree =
       splits_weighed nodes tree,
     )
 
-tree_short : (single : Bool) (nodes : List Node) → IsTree nodes → ((i : ℕ) → i < length nodes → IsNodeText single (node_at nodes i))
+tree_short : (single : Bool) (nodes : List Node) → IsTree nodes
+    → ((i : ℕ) → i < length nodes → IsNodeText single (node_at nodes i))
     → length (tree_text single nodes) ≤ length (preorder nodes) * 48100
 tree_short single nodes tree fits =
     pieces (λ i. node_text single (node_at nodes i)) 48100 (preorder nodes)
@@ -323,15 +329,26 @@ module _ (l : LineData) (line : IsLine l) (d : TimetableData) (fits : IsTimetabl
         digits d.period (omega (arith, fits.period)),
         each_short l.degree 4 60 (carrier_line p) line.limits.degree.1 (λ c lt. carrier_short c lt),
         each_short l.degree 4 1920 (λ c. each_below (length l.stages) (choice_line l p c)) line.limits.degree.1
-            (λ c lt. omega (arith, line.limits.stages, each_short (length l.stages) 32 60 (choice_line l p c) line.limits.stages.1 (λ k there. choice_short c k lt there))),
+            (λ c lt. omega (
+              arith,
+              line.limits.stages,
+              each_short (length l.stages) 32 60
+                  (choice_line l p c) line.limits.stages.1 (λ k there. choice_short c k lt there),
+            )),
         each_short l.degree 4 2560 (λ c. each_below (last_stage l) (move_line p c)) line.limits.degree.1
-            (λ c lt. omega (arith, line.limits.stages, each_short (last_stage l) 32 80 (move_line p c) (omega (arith, line.limits.stages)) (λ k there. move_short c k lt there))),
+            (λ c lt. omega (
+              arith,
+              line.limits.stages,
+              each_short (last_stage l) 32 80 (move_line p c)
+                  (omega (arith, line.limits.stages)) (λ k there. move_short c k lt there),
+            )),
         each_short l.hoists 6 220100 (path_line p) line.limits.hoists.1 (λ h lt. path_short h lt),
         line.limits.degree,
         line.limits.hoists,
       )
 
-timetable_short : (l : LineData) (a : Answer) → IsLine l → IsAnswer l a → (t : Option TimetableData) → a.timetable ≡ t → length (timetable_text l t) ≤ 2000000
+timetable_short : (l : LineData) (a : Answer) → IsLine l → IsAnswer l a → (t : Option TimetableData) → a.timetable ≡ t
+    → length (timetable_text l t) ≤ 2000000
 timetable_short l a line f None e = omega arith
 timetable_short l a line f (Some d) e =
     let M : Option TimetableData → Type 0 = λ t. MatchOption t ⊤ (λ x. IsTimetableOf l x × HasSmallPath x) in

@@ -23,7 +23,8 @@ pub same_count : (n m : Node) → unnumbered n ≡ unnumbered m → length (chil
 same_count n m e = sym (count_kept n) ∙ ap (λ (x : Node). length (children_of x)) e ∙ count_kept m
 
 -- what says a split is one
-pub split_said : (n : Node) (question : Question) (zeros : List ℕ) → unnumbered n ≡ Split question zeros → n ≡ Split question (children_of n)
+pub split_said : (n : Node) (question : Question) (zeros : List ℕ) → unnumbered n ≡ Split question zeros
+    → n ≡ Split question (children_of n)
 split_said (Split other children) question zeros e =
     let same : other ≡ question = cc in
     ap (λ (q : Question). Split q children) same
@@ -56,7 +57,8 @@ split_kept (Stuck m) = refl
 split_kept (Solved low) = refl
 split_kept (Left low) = refl
 
-shows_there : (l : LineData) (path : List Decision) (bound : ℕ) (n : Node) → Shows l path n bound → Shows l path (unnumbered n) bound
+shows_there : (l : LineData) (path : List Decision) (bound : ℕ) (n : Node) → Shows l path n bound
+    → Shows l path (unnumbered n) bound
 shows_there l path bound (Split question children) shows =
     record { fits = shows.fits; count = length-replicate (length children) 0 ∙ shows.count }
 shows_there l path bound (Closed low high) shows = shows
@@ -64,7 +66,8 @@ shows_there l path bound (Stuck m) shows = shows
 shows_there l path bound (Solved low) shows = shows
 shows_there l path bound (Left low) shows = shows
 
-shows_back : (l : LineData) (path : List Decision) (bound : ℕ) (n : Node) → Shows l path (unnumbered n) bound → Shows l path n bound
+shows_back : (l : LineData) (path : List Decision) (bound : ℕ) (n : Node) → Shows l path (unnumbered n) bound
+    → Shows l path n bound
 shows_back l path bound (Split question children) shows =
     record { fits = shows.fits; count = sym (length-replicate (length children) 0) ∙ shows.count }
 shows_back l path bound (Closed low high) shows = shows
@@ -72,7 +75,8 @@ shows_back l path bound (Stuck m) shows = shows
 shows_back l path bound (Solved low) shows = shows
 shows_back l path bound (Left low) shows = shows
 
-pub same_shows : (l : LineData) (path : List Decision) (bound : ℕ) (n m : Node) → unnumbered n ≡ unnumbered m → Shows l path n bound → Shows l path m bound
+pub same_shows : (l : LineData) (path : List Decision) (bound : ℕ) (n m : Node) → unnumbered n ≡ unnumbered m
+    → Shows l path n bound → Shows l path m bound
 same_shows l path bound n m e shows =
     let S : Node → Type 0 = λ x. Shows l path x bound in
     shows_back l path bound m (subst S e (shows_there l path bound n shows))

@@ -26,7 +26,8 @@ abbrev Follows : List Node → List Node → ℕ → ℕ → Type 0
 Follows nodes others i j = (ds : List Decision) (k : ℕ) → Leads nodes i ds k → (m : ℕ) × Leads others j ds m × Says nodes others k m
 
 follows : (nodes others : List Node) (i j : ℕ) → Says nodes others i j
-    → AllZip (Follows nodes others) (children_of (node_at nodes i)) (children_of (node_at others j)) → Follows nodes others i j
+    → AllZip (Follows nodes others) (children_of (node_at nodes i)) (children_of (node_at others j))
+    → Follows nodes others i j
 follows nodes others i j says kids [] k e =
     let S : ℕ → Type 0 = λ n. Says nodes others n j in
     (j, refl, subst S e says)
@@ -48,7 +49,8 @@ follows nodes others i j says kids (d ∷ ds) k (c, b, rest) =
     } in
     (r.0, (get_or others_cs d.child 0, branch, r.1), r.2)
 
-zip_cut : {X : Type 0} (R : X → X → Type 0) (xs ys ws vs : List X) → length xs ≡ length ys → AllZip R (xs ++ ws) (ys ++ vs) → AllZip R xs ys × AllZip R ws vs
+zip_cut : {X : Type 0} (R : X → X → Type 0) (xs ys ws vs : List X) → length xs ≡ length ys
+    → AllZip R (xs ++ ws) (ys ++ vs) → AllZip R xs ys × AllZip R ws vs
 zip_cut R [] [] ws vs e h = (tt, h)
 zip_cut R [] (y ∷ ys) ws vs e h = absurd (omega (arith, e))
 zip_cut R (x ∷ xs) [] ws vs e h = absurd (omega (arith, e))
@@ -60,8 +62,10 @@ zip_cut R (x ∷ xs) (y ∷ ys) ws vs e h =
 abbrev said_in : List Node → List ℕ → List Node
 said_in nodes order = map (λ i. unnumbered (node_at nodes i)) order
 
-all_follow : (nodes others : List Node) (waiting order others_waiting others_order : List ℕ) → Visits nodes waiting order
-    → Visits others others_waiting others_order → said_in nodes order ≡ said_in others others_order → AllZip (Follows nodes others) waiting others_waiting
+all_follow : (nodes others : List Node) (waiting order others_waiting others_order : List ℕ)
+    → Visits nodes waiting order
+    → Visits others others_waiting others_order → said_in nodes order ≡ said_in others others_order
+    → AllZip (Follows nodes others) waiting others_waiting
 all_follow nodes others [] [] [] [] v w e = tt
 all_follow nodes others [] [] [] (y ∷ ys) v w e = absurd w
 all_follow nodes others [] [] (j ∷ js) [] v w e = absurd cc
@@ -84,28 +88,33 @@ all_follow nodes others (i ∷ is) (x ∷ xs) (j ∷ js) (y ∷ ys) v w e =
     (all_follow nodes others (cs ++ is) xs (others_cs ++ js) ys v.2 w.2 tail) in
     (follows nodes others i j says r.0, r.1)
 
-follows_all : (nodes others : List Node) → IsTree nodes → IsTree others → said nodes ≡ said others → Follows nodes others 0 0
+follows_all : (nodes others : List Node) → IsTree nodes → IsTree others → said nodes ≡ said others
+    → Follows nodes others 0 0
 follows_all nodes others tree twin e =
     (all_follow nodes others (0 ∷ []) (preorder nodes) (0 ∷ []) (preorder others) (visits_all nodes tree) (visits_all others twin) e).0
 
 -- ---- what both show
 
-leads_there : (nodes : List Node) → IsTree nodes → (i : ℕ) (ds : List Decision) (k : ℕ) → i < length nodes → Leads nodes i ds k → k < length nodes
+leads_there : (nodes : List Node) → IsTree nodes → (i : ℕ) (ds : List Decision) (k : ℕ) → i < length nodes
+    → Leads nodes i ds k → k < length nodes
 leads_there nodes tree i [] k lt e = omega (arith, lt, e)
 leads_there nodes tree i (d ∷ ds) k lt (c, b, rest) = leads_there nodes tree c ds k (branch_later nodes i d c tree b).1 rest
 
-pub proves_too : (l : LineData) (bound : ℕ) (nodes others : List Node) → IsTree nodes → IsTree others → said nodes ≡ said others → Proves l nodes bound
+pub proves_too : (l : LineData) (bound : ℕ) (nodes others : List Node) → IsTree nodes → IsTree others
+    → said nodes ≡ said others → Proves l nodes bound
     → Proves l others bound
 proves_too l bound nodes others tree twin e proves i path lt leads =
     let (k, back, says) = follows_all others nodes twin tree (sym e) path i leads in
     same_shows l path bound (node_at nodes k) (node_at others i) (sym says) (proves k path (leads_there nodes tree 0 path k tree.root back) back)
 
 -- what is said at a place of the preorder
-said_at : (nodes : List Node) (n : ℕ) → n < length (preorder nodes) → get_or (said nodes) n (Left None) ≡ unnumbered (node_at nodes (get_or (preorder nodes) n 0))
+said_at : (nodes : List Node) (n : ℕ) → n < length (preorder nodes)
+    → get_or (said nodes) n (Left None) ≡ unnumbered (node_at nodes (get_or (preorder nodes) n 0))
 said_at nodes n lt = get_or-map (λ (i : ℕ). unnumbered (node_at nodes i)) (preorder nodes) n 0 (Left None) lt
 
 -- a node of the one has a twin
-twin_of : (nodes others : List Node) → IsTree nodes → IsTree others → said nodes ≡ said others → (i : ℕ) → i < length nodes
+twin_of : (nodes others : List Node) → IsTree nodes → IsTree others → said nodes ≡ said others → (i : ℕ)
+    → i < length nodes
     → (j : ℕ) × (j < length others) × Says nodes others i j
 twin_of nodes others tree twin e i lt =
     let (n, there, is) = place_of_node nodes tree i lt in
@@ -119,12 +128,14 @@ twin_of nodes others tree twin e i lt =
           ∙ said_at others n too,
     )
 
-pub none_left_too : (nodes others : List Node) → IsTree nodes → IsTree others → said nodes ≡ said others → NoneLeft nodes → NoneLeft others
+pub none_left_too : (nodes others : List Node) → IsTree nodes → IsTree others → said nodes ≡ said others
+    → NoneLeft nodes → NoneLeft others
 none_left_too nodes others tree twin e none i lt left =
     let (j, there, says) = twin_of others nodes twin tree (sym e) i lt in
     none j there (same_left (node_at others i) (node_at nodes j) says left)
 
-pub some_left_too : (nodes others : List Node) → IsTree nodes → IsTree others → said nodes ≡ said others → SomeLeft nodes → SomeLeft others
+pub some_left_too : (nodes others : List Node) → IsTree nodes → IsTree others → said nodes ≡ said others
+    → SomeLeft nodes → SomeLeft others
 some_left_too nodes others tree twin e (i, lt, left) =
     let (j, there, says) = twin_of nodes others tree twin e i lt in
     (j, there, same_left (node_at nodes i) (node_at others j) says left)

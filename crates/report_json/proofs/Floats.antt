@@ -9,7 +9,8 @@ use Rattle.serde_json.specs.View.{items_of}
 use Rattle.serde_json.specs.Written.{has_float, items_have_float}
 use Rattle.report_json.specs.Document.{count, count_or_null, listed, tank_value, stage_value, line_value, stay_value, carrier_value, move_value, hoist_value, document}
 
-items_plain : (f : ℕ → Data) (xs : List ℕ) → ((i : ℕ) → has_float (f i) ≡ false) → items_have_float (items_of (map f xs)) ≡ false
+items_plain : (f : ℕ → Data) (xs : List ℕ) → ((i : ℕ) → has_float (f i) ≡ false)
+    → items_have_float (items_of (map f xs)) ≡ false
 items_plain f [] each = refl
 items_plain f (x ∷ xs) each = rw (each x) (items_plain f xs each)
 

@@ -8,7 +8,8 @@ use Rattle.serde_json.specs.View.{view}
 use Rattle.serde_json.specs.declared.value.Value.{Value}
 
 -- one value more behind the first ones
-pub one_more : (values more : List Value) (v : Value) (n : ℕ) (f : ℕ → Data) → map view values ≡ map f (range_with_len 0 n) → view v ≡ f n
+pub one_more : (values more : List Value) (v : Value) (n : ℕ) (f : ℕ → Data)
+    → map view values ≡ map f (range_with_len 0 n) → view v ≡ f n
     → more ≡ values ++ v ∷ [] → map view more ≡ map f (range_with_len 0 (n + 1))
 one_more values more v n f before is after =
     ap (map view) after ∙ map-append view values (v ∷ [])

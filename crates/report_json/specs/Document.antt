@@ -1,5 +1,5 @@
--- The document of an answer: which value stands for each part of the line, of the answer and of its timetable. The members of
--- an object stand in the order of their names' bytes.
+-- The document of an answer: which value stands for each part of the line, of the answer and of its timetable. The
+-- members of an object stand in the order of their names' bytes.
 use Rattle.std.specs.Prelude.{ℕ, ◌+◌, ◌-◌, List, ◌++◌, codes, length, get_or, map, Option, Some, None}
 use Rattle.std.specs.List.{range_with_len}
 use Rattle.hoist_base.specs.LineData.{LineData, stage, tank, position_of, move_at, move_count}
@@ -57,7 +57,8 @@ line_value l =
 
 -- ---- the timetable
 
--- a stay: the ticks at which the carrier begins and ends its rest in its tank, the ticks between, and the window of the stage
+-- a stay: the ticks at which the carrier begins and ends its rest in its tank, the ticks between, and the window of the
+-- stage
 unfoldable pub stay_value : LineData → Timetable → ℕ → ℕ → Data
 stay_value l p c k =
     object

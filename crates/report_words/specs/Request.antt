@@ -10,7 +10,8 @@ use Rattle.report_words.specs.declared.words.Placed.TheVariants.{Two, Three}
 abbrev pub option : List ℕ
 option = codes "--json"
 
--- the words are a line's file and an answer's file, in this order, and for JSON the option before, between or behind them
+-- the words are a line's file and an answer's file, in this order, and for JSON the option before, between or behind
+-- them
 abbrev pub Say : List (List ℕ) → Form → List ℕ → List ℕ → Type 0
 Say words Page file answer = words ≡ file ∷ answer ∷ []
 Say words Json file answer =

@@ -5,7 +5,8 @@ use Rattle.std.proofs.lemmas.List.{get_or_past}
 use Rattle.tick_machine.specs.declared.frame.Hold.{Hold}
 
 -- nobody is held past the end
-pub all_young : (P : Hold → Type 0) (xs : List (Option Hold)) → ((j : ℕ) → j < length xs → IfSome (get_or xs j None) P) → (i : ℕ)
+pub all_young : (P : Hold → Type 0) (xs : List (Option Hold)) → ((j : ℕ) → j < length xs → IfSome (get_or xs j None) P)
+    → (i : ℕ)
     → IfSome (get_or xs i None) P
 all_young P xs all i =
     ⊎_elim (λ lt. all i lt)

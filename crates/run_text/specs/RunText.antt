@@ -18,7 +18,8 @@ what_text (Begin c k h) = codes " begin " ++ (pair_text c k ++ (codes " hoist " 
 abbrev pub event_line : Event → List ℕ
 event_line e = decimal e.tick ++ (what_text e.what ++ end)
 
--- the run of the first n carriers, from its first put to its last off, with its log in order; at the end the line is empty
+-- the run of the first n carriers, from its first put to its last off, with its log in order; at the end the line is
+-- empty
 abbrev pub run_text : LineData → Timetable → ℕ → List ℕ
 run_text l p n =
     codes "run "

@@ -3,7 +3,8 @@ use Rattle.std.proofs.Common.{◌≡◌, ℕ, zero, suc, ◌<◌, [], ◌∷◌,
 use Rattle.longest_path.specs.System.{SystemData, arc, Leads, IsReached}
 use Rattle.search_rows.specs.Chain.{IsChain}
 
-pub reached_two : (s : SystemData) → s.nodes ≡ 2 → 0 < length s.arcs → (arc s 0).from ≡ 0 → (arc s 0).to ≡ 1 → (i : ℕ) → i < s.nodes → IsReached s i
+pub reached_two : (s : SystemData) → s.nodes ≡ 2 → 0 < length s.arcs → (arc s 0).from ≡ 0 → (arc s 0).to ≡ 1 → (i : ℕ)
+    → i < s.nodes → IsReached s i
 reached_two s two some from to zero p = ([], refl)
 reached_two s two some from to (suc i) p =
     let e : 1 ≡ suc i = omega (arith, p, two) in

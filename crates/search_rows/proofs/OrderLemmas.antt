@@ -13,6 +13,7 @@ child_of_order l (TankOrder a b q) child h lt = lt
 child_of_order l (HoistOrder a b q) child h lt = lt
 child_of_order l (Choose v) child h lt = absurd h
 
-pub fits_one : (l : LineData) (d : Decision) → Fits l [] d.question → IsOrder d.question → d.child < 2 → FitsPath l (d ∷ [])
+pub fits_one : (l : LineData) (d : Decision) → Fits l [] d.question → IsOrder d.question → d.child < 2
+    → FitsPath l (d ∷ [])
 fits_one l d f order lt zero there = record { question = f; child = child_of_order l d.question d.child order lt }
 fits_one l d f order lt (suc i) there = absurd (omega (arith, there))

@@ -30,7 +30,8 @@ same_count (n ∷ ns) =
     omega (arith, one, same_count ns)
 
 pub keeps_rules : (l : LineData) (left splits bound : ℕ) (best : Option Solved) (tree : List Node) (t : Option TimetableData)
-    → (left ≡ 0 → bound ≡ cap_of l best) → bound ≤ cap_of l best → search.split_nodes tree ≡ splits → (left ≡ 0 → search.NoneLeft tree) → (0 < left → search.SomeLeft tree) → Proves l tree bound → IsPlanOr l best t
+    → (left ≡ 0 → bound ≡ cap_of l best) → bound ≤ cap_of l best → search.split_nodes tree ≡ splits
+    → (left ≡ 0 → search.NoneLeft tree) → (0 < left → search.SomeLeft tree) → Proves l tree bound → IsPlanOr l best t
     → IfSome t (λ d. IsLegal l (timetable_of d))
     → KeepsRules l (answer_with (record { tree = tree; best = best; bound = bound; splits = splits; left = left }) t)
 keeps_rules l (suc left) splits bound None tree None whole most counted none some proves plan legal =

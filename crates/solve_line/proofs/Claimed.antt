@@ -20,8 +20,10 @@ use Rattle.solve_line.specs.Claims.{KeepsClaim}
 abbrev pub answer_with : Outcome → Option TimetableData → Answer
 answer_with o t = record { verdict = verdict_of o; bound = o.bound; splits = o.splits; timetable = t; tree = o.tree }
 
-pub keeps_claim : (l : LineData) (budget left splits bound : ℕ) (best : Option Solved) (tree : List Node) (t : Option TimetableData) → IsLine l
-    → (left ≡ 0 → bound ≡ cap_of l best) → (0 < left → splits ≡ budget) → (enough_budget l ≤ budget → left ≡ 0) → Proves l tree bound → NoneBelow l bound → IsPlanOr l best t
+pub keeps_claim : (l : LineData) (budget left splits bound : ℕ) (best : Option Solved) (tree : List Node) (t : Option TimetableData)
+    → IsLine l
+    → (left ≡ 0 → bound ≡ cap_of l best) → (0 < left → splits ≡ budget) → (enough_budget l ≤ budget → left ≡ 0)
+    → Proves l tree bound → NoneBelow l bound → IsPlanOr l best t
     → IfSome t (λ d. IsLegal l (timetable_of d))
     → KeepsClaim l budget (answer_with (record { tree = tree; best = best; bound = bound; splits = splits; left = left }) t)
 keeps_claim l budget (suc left) splits bound best tree t line whole spent enough proves none plan legal =

@@ -26,11 +26,13 @@ use Rattle.solve_line.specs.Laws.{SolutionIsOne}
 
 -- ---- the starts
 
-start_at : (l : LineData) (s : Solved) (d : TimetableData) (c k : ℕ) → IsPlan l s d → FitsLine l d → IsMove l c k → pos (get_or d.start (move_number l c k) 0) ≡ tick_at s.ticks (move_number l c k) +ℤ pos l.load
+start_at : (l : LineData) (s : Solved) (d : TimetableData) (c k : ℕ) → IsPlan l s d → FitsLine l d → IsMove l c k
+    → pos (get_or d.start (move_number l c k) 0) ≡ tick_at s.ticks (move_number l c k) +ℤ pos l.load
 start_at l s d c k plan fits move =
     sym (ap (λ (n : ℕ). pos (get_or d.start (c * n + k) 0)) fits.steps) ∙ plan.start c k move
 
-starts_are_one : (l : LineData) (s : Solved) (d d' : TimetableData) → IsLine l → IsPlan l s d → IsPlan l s d' → FitsLine l d → FitsLine l d' → d.start ≡ d'.start
+starts_are_one : (l : LineData) (s : Solved) (d d' : TimetableData) → IsLine l → IsPlan l s d → IsPlan l s d'
+    → FitsLine l d → FitsLine l d' → d.start ≡ d'.start
 starts_are_one l s d d' line plan plan' fits fits' =
     same_numbers d.start d'.start (fits.start_count ∙ sym fits'.start_count)
     (λ i lt.
@@ -39,7 +41,8 @@ starts_are_one l s d d' line plan plan' fits fits' =
     let k = i % last_stage l in
     let m = node_move l i line there in
     let P : ℕ → Type 0 = λ n. get_or d.start n 0 ≡ get_or d'.start n 0 in
-    let same : pos (get_or d.start (move_number l c k) 0) ≡ pos (get_or d'.start (move_number l c k) 0) = start_at l s d c k plan fits m ∙ sym (start_at l s d' c k plan' fits' m) in
+    let same : pos (get_or d.start (move_number l c k) 0) ≡ pos (get_or d'.start (move_number l c k) 0) = start_at l s d
+    c k plan fits m ∙ sym (start_at l s d' c k plan' fits' m) in
     subst P (sym (node_is l i (omega (arith, line.limits.stages.0)))) (omega (arith, ints, same)))
 
 -- ---- puts and offs, by steps, starts and tanks
@@ -53,15 +56,18 @@ parts steps starts tanks = record { period = 0; steps = steps; put = []; off = [
 abbrev off_of : LineData → ℕ → TimetableData → ℕ
 off_of l c d = (timetable_of d).start c (last_step l) + duration (motion l (timetable_of d) c (last_step l)) + l.unload
 
-puts_are_one : (l : LineData) (s : Solved) (d d' : TimetableData) → IsPlan l s d → IsPlan l s d' → FitsLine l d → FitsLine l d' → d.steps ≡ d'.steps → d.start ≡ d'.start → d.put ≡ d'.put
+puts_are_one : (l : LineData) (s : Solved) (d d' : TimetableData) → IsPlan l s d → IsPlan l s d' → FitsLine l d
+    → FitsLine l d' → d.steps ≡ d'.steps → d.start ≡ d'.start → d.put ≡ d'.put
 puts_are_one l s d d' plan plan' fits fits' steps starts =
     same_numbers d.put d'.put (fits.put_count ∙ sym fits'.put_count)
     (λ c lt.
     let there : c < l.degree = omega (arith, lt, fits.put_count) in
-    let same : put_of l c d.steps d.start ≡ put_of l c d'.steps d'.start = ap (λ (n : ℕ). put_of l c n d.start) steps ∙ ap (λ (xs : List ℕ). put_of l c d'.steps xs) starts in
+    let same : put_of l c d.steps d.start ≡ put_of l c d'.steps d'.start = ap (λ (n : ℕ). put_of l c n d.start) steps
+    ∙ ap (λ (xs : List ℕ). put_of l c d'.steps xs) starts in
     omega (arith, plan.put c there, plan'.put c there, same))
 
-offs_are_one : (l : LineData) (s : Solved) (d d' : TimetableData) → IsPlan l s d → IsPlan l s d' → FitsLine l d → FitsLine l d' → d.steps ≡ d'.steps → d.start ≡ d'.start → d.tank ≡ d'.tank → d.off ≡ d'.off
+offs_are_one : (l : LineData) (s : Solved) (d d' : TimetableData) → IsPlan l s d → IsPlan l s d' → FitsLine l d
+    → FitsLine l d' → d.steps ≡ d'.steps → d.start ≡ d'.start → d.tank ≡ d'.tank → d.off ≡ d'.off
 offs_are_one l s d d' plan plan' fits fits' steps starts tanks =
     same_numbers d.off d'.off (fits.off_count ∙ sym fits'.off_count)
     (λ c lt.
@@ -77,7 +83,8 @@ not_above : (l : LineData) (p : Timetable) (h t a b : ℕ) → IsLowestAt l p h 
 not_above l p h t a b low other =
     ⊎_elim (λ e. omega (arith, e, other.room)) (λ x. other.forced x.0 a x.1) low.some
 
-lowest_are_one : (l : LineData) (p : Timetable) (rows rows' : List ℕ) → IsLine l → 1 ≤ p.period → AreLowest l p rows → AreLowest l p rows' → rows ≡ rows'
+lowest_are_one : (l : LineData) (p : Timetable) (rows rows' : List ℕ) → IsLine l → 1 ≤ p.period → AreLowest l p rows
+    → AreLowest l p rows' → rows ≡ rows'
 lowest_are_one l p rows rows' line some low other =
     same_numbers rows rows' (low.count ∙ sym other.count)
     (λ i lt.
@@ -99,7 +106,8 @@ abbrev data_by : ℕ → ℕ → List ℕ → List ℕ → List ℕ → List ℕ
 data_by period steps put off start hoist path tank =
     record { period = period; steps = steps; put = put; off = off; start = start; hoist = hoist; path = path; tank = tank }
 
-plan_is_one : (l : LineData) (s : Solved) (d d' : TimetableData) → IsLine l → IsPlan l s d → IsPlan l s d' → IsTimetableOf l d → IsTimetableOf l d' → d ≡ d'
+plan_is_one : (l : LineData) (s : Solved) (d d' : TimetableData) → IsLine l → IsPlan l s d → IsPlan l s d'
+    → IsTimetableOf l d → IsTimetableOf l d' → d ≡ d'
 plan_is_one l s d d' line plan plan' is is' =
     let period = plan.period ∙ sym plan'.period in
     let steps = is.fits.steps ∙ sym is'.fits.steps in
@@ -125,7 +133,8 @@ plan_is_one l s d d' line plan plan' is is' =
 abbrev AreWritten : LineData → Option TimetableData → Type 0
 AreWritten l t = MatchOption t ⊤ (λ d. IsTimetableOf l d × HasSmallPath d)
 
-timetable_is_one : (l : LineData) (best : Option Solved) (t t' : Option TimetableData) → IsLine l → IsPlanOr l best t → IsPlanOr l best t' → AreWritten l t → AreWritten l t' → t ≡ t'
+timetable_is_one : (l : LineData) (best : Option Solved) (t t' : Option TimetableData) → IsLine l → IsPlanOr l best t
+    → IsPlanOr l best t' → AreWritten l t → AreWritten l t' → t ≡ t'
 timetable_is_one l None None None line plan plan' is is' = refl
 timetable_is_one l None None (Some d') line plan plan' is is' = absurd plan'
 timetable_is_one l None (Some d) t' line plan plan' is is' = absurd plan
@@ -137,10 +146,13 @@ abbrev answer_by : Verdict → ℕ → ℕ → Option TimetableData → List Nod
 answer_by verdict bound splits timetable tree = record { verdict = verdict; bound = bound; splits = splits; timetable = timetable; tree = tree }
 
 -- all of an answer but its timetable is its outcome's
-answer_of : (l : LineData) (o : Outcome) (a : Answer) → IsAnswerOf l o a → a ≡ answer_by (verdict_of o) o.bound o.splits a.timetable o.tree
+answer_of : (l : LineData) (o : Outcome) (a : Answer) → IsAnswerOf l o a
+    → a ≡ answer_by (verdict_of o) o.bound o.splits a.timetable o.tree
 answer_of l o a is =
-    ap (λ (v : Verdict). answer_by v a.bound a.splits a.timetable a.tree) is.verdict ∙ ap (λ (n : ℕ). answer_by (verdict_of o) n a.splits a.timetable a.tree) is.bound
-    ∙ ap (λ (n : ℕ). answer_by (verdict_of o) o.bound n a.timetable a.tree) is.splits ∙ ap (λ (ns : List Node). answer_by (verdict_of o) o.bound o.splits a.timetable ns) is.tree
+    ap (λ (v : Verdict). answer_by v a.bound a.splits a.timetable a.tree) is.verdict
+    ∙ ap (λ (n : ℕ). answer_by (verdict_of o) n a.splits a.timetable a.tree) is.bound
+    ∙ ap (λ (n : ℕ). answer_by (verdict_of o) o.bound n a.timetable a.tree) is.splits
+    ∙ ap (λ (ns : List Node). answer_by (verdict_of o) o.bound o.splits a.timetable ns) is.tree
 
 pub solution_is_one : SolutionIsOne
 solution_is_one l budget a a' line small (o, grown, is) (o', grown', is') written written' =

@@ -15,8 +15,10 @@ use Rattle.solve_line.specs.Solved.{IsSolved}
 use Rattle.solve_line.proofs.AcceptedLemmas.{keeps_rules}
 use Rattle.solve_line.proofs.Claimed.{keeps_claim, answer_with}
 
-solved_with : (l : LineData) (budget : ℕ) (o : Outcome) (t : Option TimetableData) → budget ≤ 20000 → IsSearched l budget o
-    → IsPlanOr l o.best t → IfSome t (λ d. IsLegal l (timetable_of d)) → MatchOption t ⊤ (λ d. IsTimetableOf l d × HasSmallPath d)
+solved_with : (l : LineData) (budget : ℕ) (o : Outcome) (t : Option TimetableData) → budget ≤ 20000
+    → IsSearched l budget o
+    → IsPlanOr l o.best t → IfSome t (λ d. IsLegal l (timetable_of d))
+    → MatchOption t ⊤ (λ d. IsTimetableOf l d × HasSmallPath d)
     → IsSolved l budget (answer_with o t)
 solved_with l budget o t small s plan legal fits =
     let rules : KeepsRules l (answer_with o t) =
@@ -37,9 +39,11 @@ solved_with l budget o t small s plan legal fits =
       no_reason = λ r has. no_reason l (answer_with o t) r s.valid s.tree rules has;
     }
 
-pub is_solved : (l : LineData) (budget : ℕ) (o : Outcome) (t : Option TimetableData) (v : Verdict) → v ≡ verdict_of o → budget ≤ 20000
+pub is_solved : (l : LineData) (budget : ℕ) (o : Outcome) (t : Option TimetableData) (v : Verdict) → v ≡ verdict_of o
+    → budget ≤ 20000
     → IsSearched l budget o → IsPlanOr l o.best t → IfSome t (λ d. IsLegal l (timetable_of d))
-    → MatchOption t ⊤ (λ d. IsTimetableOf l d × HasSmallPath d) → IsSolved l budget (record (answer_with o t) { verdict = v })
+    → MatchOption t ⊤ (λ d. IsTimetableOf l d × HasSmallPath d)
+    → IsSolved l budget (record (answer_with o t) { verdict = v })
 is_solved l budget o t v same small s plan legal fits =
     let P : Verdict → Type 0 = λ w. IsSolved l budget (record (answer_with o t) { verdict = w }) in
     subst P (sym same) (solved_with l budget o t small s plan legal fits)

@@ -10,8 +10,8 @@ use Rattle.answer_text.specs.declared.answer.Verdict.{Verdict}
 use Rattle.answer_text.specs.declared.answer.Verdict.TheVariants.{Optimal, Nothing, Unfinished}
 use Rattle.answer_text.specs.declared.answer.Answer.{Answer}
 
--- the answer's timetable is legal tick by tick, every carrier of every run of it keeps its windows, no legal timetable has a
--- smaller period, and the answer's tree of constraint cycles proves this
+-- the answer's timetable is legal tick by tick, every carrier of every run of it keeps its windows, no legal timetable
+-- has a smaller period, and the answer's tree of constraint cycles proves this
 pub record IsOptimal (l : LineData) (a : Answer) : Type 0 where
   pub timetable : TimetableData
   pub is : a.timetable ≡ Some timetable
@@ -28,8 +28,8 @@ pub record IsNothing (l : LineData) (a : Answer) : Type 0 where
   pub none_below : NoneBelow l a.bound
   pub proves : Proves l a.tree a.bound
 
--- the budget was spent, and is less than one that is enough for the line; none has a period below the bound, which the tree
--- proves, and a timetable, where there is one, is legal
+-- the budget was spent, and is less than one that is enough for the line; none has a period below the bound, which the
+-- tree proves, and a timetable, where there is one, is legal
 pub record IsUnfinished (l : LineData) (budget : ℕ) (a : Answer) : Type 0 where
   pub splits : a.splits ≡ budget
   pub too_small : budget < enough_budget l

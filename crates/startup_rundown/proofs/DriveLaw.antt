@@ -30,8 +30,10 @@ goes_toward a b up down =
     ⊎_elim
     (λ lt. let e : toward a b ≡ Low = cond-true (nat_lt b a) _ _ (lt-ltb b a lt) in subst (λ g. Goes g a b) (sym e) (omega arith))
     (λ le. ⊎_elim
-    (λ lt. let e : toward a b ≡ High = cond-false (nat_lt b a) _ _ (le-ltb b a le) ∙ cond-true (nat_lt a b) _ _ (lt-ltb a b lt) in subst (λ g. Goes g a b) (sym e) (omega arith))
-    (λ ge. let e : toward a b ≡ Stay = cond-false (nat_lt b a) _ _ (le-ltb b a le) ∙ cond-false (nat_lt a b) _ _ (le-ltb a b ge) in subst (λ g. Goes g a b) (sym e) (omega arith))
+    (λ lt. let e : toward a b ≡ High = cond-false (nat_lt b a) _ _ (le-ltb b a le)
+    ∙ cond-true (nat_lt a b) _ _ (lt-ltb a b lt) in subst (λ g. Goes g a b) (sym e) (omega arith))
+    (λ ge. let e : toward a b ≡ Stay = cond-false (nat_lt b a) _ _ (le-ltb b a le)
+    ∙ cond-false (nat_lt a b) _ _ (le-ltb a b ge) in subst (λ g. Goes g a b) (sym e) (omega arith))
     (cases_lt a b))
     (cases_lt b a)
 
@@ -47,12 +49,17 @@ neither : (a b : Bool) → a ≡ false → b ≡ false → (a || b) ≡ false
 neither true b e f = absurd (let g = e in cc)
 neither false b e f = f
 
-loads : (l : LineData) (p : Timetable) (n t h c k : ℕ) → c < n → k < last_stage l → run_hoist l p c k ≡ h → run_start l p c k < t → t - 1 < run_end l p c k → is_loaded l p n t h ≡ true
+loads : (l : LineData) (p : Timetable) (n t h c k : ℕ) → c < n → k < last_stage l → run_hoist l p c k ≡ h
+    → run_start l p c k < t → t - 1 < run_end l p c k → is_loaded l p n t h ≡ true
 loads l p n t h c k there below by from to =
     some_if (pick_move n (last_stage l) (under l p t h) (λ d j. d)) (move_not n (last_stage l) (under l p t h) (λ d j. d) c k (there, below)
-    (and_from (run_hoist l p c k == h) _ (eq-eqb (run_hoist l p c k) h by) (and_from (nat_lt (run_start l p c k) t) (nat_lt (t - 1) (run_end l p c k)) (lt-ltb (run_start l p c k) t from) (lt-ltb (t - 1) (run_end l p c k) to))))
+    (and_from (run_hoist l p c k == h) _ (eq-eqb (run_hoist l p c k) h by)
+    (and_from (nat_lt (run_start l p c k) t) (nat_lt (t - 1) (run_end l p c k)) (lt-ltb (run_start l p c k) t from)
+    (lt-ltb (t - 1) (run_end l p c k) to))))
 
-unloaded : (l : LineData) (p : Timetable) (n t h : ℕ) → ((c k : ℕ) → c < n → k < last_stage l → run_hoist l p c k ≡ h → run_start l p c k ≤ t → t < run_end l p c k → ⊥) → is_loaded l p n (t + 1) h ≡ false
+unloaded : (l : LineData) (p : Timetable) (n t h : ℕ)
+    → ((c k : ℕ) → c < n → k < last_stage l → run_hoist l p c k ≡ h → run_start l p c k ≤ t → t < run_end l p c k → ⊥)
+    → is_loaded l p n (t + 1) h ≡ false
 unloaded l p n t h none =
     false_from_ne_true (is_loaded l p n (t + 1) h)
     (λ yes.
@@ -81,7 +88,8 @@ pub leaves_at : (l : LineData) (p : Timetable) (n c : ℕ) → (run_of l p n).le
 leaves_at l p n c = ap (in_run l p c) (end_last l p (copied l c))
 
 -- no hoist begins two moves of the run at one tick
-pub one_start : (l : LineData) (p : Timetable) (n t h c k d j : ℕ) → IsRun l p n → (c < n) × (k < last_stage l) → (d < n) × (j < last_stage l) → starts_at l p t h c k ≡ true → starts_at l p t h d j ≡ true → (d ≡ c) × (j ≡ k)
+pub one_start : (l : LineData) (p : Timetable) (n t h c k d j : ℕ) → IsRun l p n → (c < n) × (k < last_stage l)
+    → (d < n) × (j < last_stage l) → starts_at l p t h c k ≡ true → starts_at l p t h d j ≡ true → (d ≡ c) × (j ≡ k)
 one_start l p n t h c k d j run v w hit other =
     let s = run_of l p n in
     let plan = run_plan l p n run in
@@ -95,21 +103,25 @@ one_start l p n t h c k d j run v w hit other =
     let at' = eqb-true (run_start l p d j) t b.1 in
     let o = carry_order (layout_of l) s c k plan v in
     let o' = carry_order (layout_of l) s d j plan w in
-    plan.carry_alone t d j c k w v (m'.lifter ∙ by' ∙ sym by ∙ sym m.lifter) (omega (arith, m'.lift)) (omega (arith, m'.lift)) (omega (arith, m.lift)) (omega (arith, m.lift))
+    plan.carry_alone t d j c k w v (m'.lifter ∙ by' ∙ sym by ∙ sym m.lifter) (omega (arith, m'.lift))
+    (omega (arith, m'.lift)) (omega (arith, m.lift)) (omega (arith, m.lift))
 
-pub drives : (l : LineData) (p : Timetable) (n first : ℕ) → IsRun l p n → first ≡ run_put l p 0 → ((c k : ℕ) → IsVisit (run_of l p n) c k → first ≤ (run_of l p n).enter c k)
+pub drives : (l : LineData) (p : Timetable) (n first : ℕ) → IsRun l p n → first ≡ run_put l p 0
+    → ((c k : ℕ) → IsVisit (run_of l p n) c k → first ≤ (run_of l p n).enter c k)
     → IsDriven (layout_of l) (run_of l p n) (position p) (order_into l p n) first
 drives l p n first run is starts =
     let s = run_of l p n in
     let last = last_stage l in
     let plan = run_plan l p n run in
     record {
-      still = λ h lt. cond-true ((first == run_put l p 0) || is_loaded l p n first h) _ _ (or_left (first == run_put l p 0) _ (eq-eqb first (run_put l p 0) is));
+      still = λ h lt. cond-true ((first == run_put l p 0) || is_loaded l p n first h) _ _
+          (or_left (first == run_put l p 0) _ (eq-eqb first (run_put l p 0) is));
       motions = λ t le. record {
         stays = λ c k v from to.
             let m = moves_are l p n c k v.1 in
             cond-true ((t + 1 == run_put l p 0) || is_loaded l p n (t + 1) (s.lifter c k)) _ _
-            (or_right (t + 1 == run_put l p 0) _ (loads l p n (t + 1) (s.lifter c k) c k v.0 v.1 (sym m.lifter) (omega (arith, m.lift)) (omega (arith, m.rest))));
+            (or_right (t + 1 == run_put l p 0) _ (loads l p n (t + 1) (s.lifter c k) c k v.0 v.1 (sym m.lifter)
+            (omega (arith, m.lift)) (omega (arith, m.rest))));
         goes = λ h lt none.
             let no : is_loaded l p n (t + 1) h ≡ false = unloaded l p n t h (λ c k there below by from to.
             let m = moves_are l p n c k below in none c k (there, below) (m.lifter ∙ by) (omega (arith, m.lift)) (omega (arith, m.rest))) in
@@ -124,21 +136,33 @@ drives l p n first run is starts =
             let v = some_of (pick n (λ c. run_off l p c == t) (λ c. c)) yes in
             let r = pick_found n (λ c. run_off l p c == t) (λ c. c) v.0 v.1 in
             record { c = r.0; there = r.1; at = leaves_at l p n r.0 ∙ eqb-true (run_off l p r.0) t r.2 };
-        each_off = λ c lt at. some_if (pick n (λ d. run_off l p d == t) (λ d. d)) (hit_not n (λ d. run_off l p d == t) (λ d. d) c lt (eq-eqb (run_off l p c) t (sym (leaves_at l p n c) ∙ at)));
+        each_off = λ c lt at. some_if (pick n (λ d. run_off l p d == t) (λ d. d))
+            (hit_not n (λ d. run_off l p d == t) (λ d. d) c lt
+            (eq-eqb (run_off l p c) t (sym (leaves_at l p n c) ∙ at)));
         put = λ yes.
             let v = some_of (pick n (λ c. run_put l p c == t) (λ c. c)) yes in
             let r = pick_found n (λ c. run_put l p c == t) (λ c. c) v.0 v.1 in
             record { c = r.0; there = r.1; at = eqb-true (run_put l p r.0) t r.2 };
-        each_put = λ c lt at. some_if (pick n (λ d. run_put l p d == t) (λ d. d)) (hit_not n (λ d. run_put l p d == t) (λ d. d) c lt (eq-eqb (run_put l p c) t at));
+        each_put = λ c lt at. some_if (pick n (λ d. run_put l p d == t) (λ d. d))
+            (hit_not n (λ d. run_put l p d == t) (λ d. d) c lt (eq-eqb (run_put l p c) t at));
         begin = λ h to e.
             let r = pick_move_found n last (starts_at l p t h) (λ c k. run_tank l p c (k + 1)) to e in
             let m = moves_are l p n r.0 r.1 r.2.1 in
             let q = and_parts (run_hoist l p r.0 r.1 == h) (run_start l p r.0 r.1 == t) r.3 in
-            record { c = r.0; k = r.1; there = r.2; by = m.lifter ∙ eqb-true (run_hoist l p r.0 r.1) h q.0; at = m.lift ∙ eqb-true (run_start l p r.0 r.1) t q.1; to_tank = sym r.4 };
+            record {
+              c = r.0;
+              k = r.1;
+              there = r.2;
+              by = m.lifter ∙ eqb-true (run_hoist l p r.0 r.1) h q.0;
+              at = m.lift
+                  ∙ eqb-true (run_start l p r.0 r.1) t q.1;
+              to_tank = sym r.4;
+            };
         each_begin = λ c k v at.
             let m = moves_are l p n c k v.1 in
             let h = s.lifter c k in
-            let hit : starts_at l p t h c k ≡ true = and_from (run_hoist l p c k == h) (run_start l p c k == t) (eq-eqb (run_hoist l p c k) h (sym m.lifter)) (eq-eqb (run_start l p c k) t (sym m.lift ∙ at)) in
+            let hit : starts_at l p t h c k ≡ true = and_from (run_hoist l p c k == h) (run_start l p c k == t)
+            (eq-eqb (run_hoist l p c k) h (sym m.lifter)) (eq-eqb (run_start l p c k) t (sym m.lift ∙ at)) in
             pick_move_is n last c k (starts_at l p t h) (λ d j. run_tank l p d (j + 1)) v hit
             (λ d j w q. one_start l p n t h c k d j run v w hit q);
       };

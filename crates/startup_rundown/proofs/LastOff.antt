@@ -30,7 +30,8 @@ pub record Latest (l : LineData) (p : Timetable) (n c last : ℕ) : Type 0 where
 pub none_yet : (l : LineData) (p : Timetable) (n : ℕ) → Latest l p n 0 0
 none_yet l p n = record { within = omega arith; all = λ e lt below. absurd (omega arith) }
 
-off_later : (l : LineData) (p : Timetable) (c turn : ℕ) → c < l.degree → run_off l p (c + turn * l.degree) ≡ p.off c + turn * p.period
+off_later : (l : LineData) (p : Timetable) (c turn : ℕ) → c < l.degree
+    → run_off l p (c + turn * l.degree) ≡ p.off c + turn * p.period
 off_later l p c turn lt =
     let n = l.degree in
     let e : c + turn * n ≡ turn * n + c = omega arith in
@@ -38,7 +39,8 @@ off_later l p c turn lt =
     let b : (c + turn * n) / n ≡ turn = ap (λ (d : ℕ). d / n) e ∙ div-mul-add turn n c lt in
     ap (λ (d : ℕ). p.off d + (c + turn * n) / n * p.period) a ∙ ap (λ (z : ℕ). p.off c + z * p.period) b
 
-pub one_more : (l : LineData) (p : Timetable) (n c last : ℕ) → c < l.degree → c < n → Latest l p n c last → Latest l p n (c + 1) (max last (p.off c + (n - 1 - c) / l.degree * p.period))
+pub one_more : (l : LineData) (p : Timetable) (n c last : ℕ) → c < l.degree → c < n → Latest l p n c last
+    → Latest l p n (c + 1) (max last (p.off c + (n - 1 - c) / l.degree * p.period))
 one_more l p n c last lt there so =
     let r = l.degree in
     let turns = (n - 1 - c) / r in
@@ -61,7 +63,8 @@ one_more l p n c last lt there so =
     }
 
 -- every off of a run comes within its time
-small_off : (n c r period off : ℕ) → n ≤ 1000 → 1 ≤ r → period ≤ 20000 → off ≤ 1000000000 → off + (n - 1 - c) / r * period ≤ 2000000000
+small_off : (n c r period off : ℕ) → n ≤ 1000 → 1 ≤ r → period ≤ 20000 → off ≤ 1000000000
+    → off + (n - 1 - c) / r * period ≤ 2000000000
 small_off n c r period off few some short early =
     let q = (n - 1 - c) / r in
     let whole = div-add-mod' (n - 1 - c) r in
@@ -69,8 +72,10 @@ small_off n c r period off few some short early =
     let b : q * period ≤ 1000 * 20000 = mul-le q period 1000 20000 (omega arith) short in
     omega arith
 
-pub one_more_soon : (l : LineData) (p : Timetable) (n c last : ℕ) → c < l.degree → c < n → n ≤ 1000 → p.period ≤ 20000 → p.off c ≤ 1000000000
-    → Latest l p n c last → last ≤ 2000000000 → Latest l p n (c + 1) (max last (p.off c + (n - 1 - c) / l.degree * p.period)) × (max last (p.off c + (n - 1 - c) / l.degree * p.period) ≤ 2000000000)
+pub one_more_soon : (l : LineData) (p : Timetable) (n c last : ℕ) → c < l.degree → c < n → n ≤ 1000 → p.period ≤ 20000
+    → p.off c ≤ 1000000000
+    → Latest l p n c last → last ≤ 2000000000
+    → Latest l p n (c + 1) (max last (p.off c + (n - 1 - c) / l.degree * p.period)) × (max last (p.off c + (n - 1 - c) / l.degree * p.period) ≤ 2000000000)
 one_more_soon l p n c last lt there few short early so soon =
     let off = small_off n c l.degree p.period (p.off c) few (omega arith) short early in
     (one_more l p n c last lt there so, omega arith)
@@ -79,12 +84,19 @@ greatest_least : (n m : ℕ) (f : ℕ → ℕ) → ((c : ℕ) → c < n → f c 
 greatest_least zero m f all = omega arith
 greatest_least (suc n) m f all = omega (arith, greatest_least n m f (λ c lt. all c (omega arith)), all n (omega arith))
 
-pub last_is : (l : LineData) (p : Timetable) (n c last : ℕ) → 1 ≤ l.degree → c ≡ min l.degree n → Latest l p n c last → last ≡ last_tick l p n
+pub last_is : (l : LineData) (p : Timetable) (n c last : ℕ) → 1 ≤ l.degree → c ≡ min l.degree n → Latest l p n c last
+    → last ≡ last_tick l p n
 last_is l p n c last some all so =
-    omega (arith, so.within, greatest_least n last (run_off l p) (λ e lt. so.all e lt (let parts = div-add-mod' e l.degree in let base = mod_below e l.degree some in omega arith)))
+    omega (
+      arith,
+      so.within,
+      greatest_least n last (run_off l p) (λ e lt. so.all e lt (let parts = div-add-mod' e
+          l.degree in let base = mod_below e l.degree some in omega arith)),
+    )
 
 -- the run is one that a machine takes
-pub is_ready : (l : LineData) (p : Timetable) (n : ℕ) → IsRun l p n → 1 ≤ n → last_tick l p n ≤ 2000000000 → IsReady l p n
+pub is_ready : (l : LineData) (p : Timetable) (n : ℕ) → IsRun l p n → 1 ≤ n → last_tick l p n ≤ 2000000000
+    → IsReady l p n
 is_ready l p n run some soon =
     let spaced = run.legal.track.spaced (first_tick l p) in
     record {

@@ -18,7 +18,8 @@ record Lifts (l : Layout) (s : Plan) (t h c k : ℕ) (f : Scene) : Type 0 where
   carried : f.carry h ≡ Some (carry_of s t c k)
   out : t - s.lift c k ≡ l.lift k
 
-lifts : (l : Layout) (s : Plan) (t h c k : ℕ) (f : Scene) → IsPlan l s → h < l.hoists → Shows s (clock t l.hoists h 0 0) f → IsVisit s c k → s.lifter c k ≡ h → s.leave c k ≡ t → Lifts l s t h c k f
+lifts : (l : Layout) (s : Plan) (t h c k : ℕ) (f : Scene) → IsPlan l s → h < l.hoists
+    → Shows s (clock t l.hoists h 0 0) f → IsVisit s c k → s.lifter c k ≡ h → s.leave c k ≡ t → Lifts l s t h c k f
 lifts l s t h c k f plan there shows v by at =
     ⊎_elim
     (λ e. absurd (let a : s.lifter c k ≡ s.lifter c s.last = ap (s.lifter c) e in omega (arith, (plan.offs c v.0).lifter)))
@@ -37,7 +38,8 @@ quiet l s t h f plan shows none = record {
   next = record { few = shows.next.few; below = shows.next.below; rest = shows.next.rest };
 }
 
-lift_out_if : (l : Layout) (s : Plan) (t h : ℕ) (f : Scene) (x : Carry) (b : Bool) → IsPlan l s → h < l.hoists → Shows s (clock t l.hoists h 0 0) f → f.carry h ≡ Some x → (x.elapsed == l.lift x.step) ≡ b
+lift_out_if : (l : Layout) (s : Plan) (t h : ℕ) (f : Scene) (x : Carry) (b : Bool) → IsPlan l s → h < l.hoists
+    → Shows s (clock t l.hoists h 0 0) f → f.carry h ≡ Some x → (x.elapsed == l.lift x.step) ≡ b
     → Shows s (clock t l.hoists (h + 1) 0 0) (cond b (record f { hold = with f.hold x.from None }) f)
 lift_out_if l s t h f x false plan there shows has test =
     quiet l s t h f plan shows
@@ -61,7 +63,8 @@ lift_out_if l s t h f x true plan there shows has test =
     let tank : s.tank d m ≡ x.from = sym (ap (λ (y : Carry). y.from) g.3) in
     let a = rest_lift l s d m plan visit in
     let b = enter_rest l s d m plan visit in
-    let was : f.hold (s.tank d m) ≡ Some (hold_of d m Lifting) = shows.holds.held d m Lifting visit (omega (arith, g.2.0), omega arith, (omega (arith, g.2.0), g.2.0)) in
+    let was : f.hold (s.tank d m) ≡ Some (hold_of d m Lifting) = shows.holds.held d m Lifting visit
+    (omega (arith, g.2.0), omega arith, (omega (arith, g.2.0), g.2.0)) in
     record {
       holds = hold_clear s (IsHeld s (clock t l.hoists h 0 0)) (IsHeld s (clock t l.hoists (h + 1) 0 0)) f.hold d m x.from shows.holds
           (λ y here. let z : y ≡ hold_of d m Lifting = cc in (ap (λ (w : Hold). w.carrier) z, ap (λ (w : Hold). w.stage) z))
@@ -75,10 +78,12 @@ lift_out_if l s t h f x true plan there shows has test =
       next = record { few = shows.next.few; below = shows.next.below; rest = shows.next.rest };
     }
 
-lift_out_at : (l : Layout) (s : Plan) (t h : ℕ) (f : Scene) (o : Option Carry) → IsPlan l s → h < l.hoists → Shows s (clock t l.hoists h 0 0) f → f.carry h ≡ o → Shows s (clock t l.hoists (h + 1) 0 0) (lift_out_by l o f)
+lift_out_at : (l : Layout) (s : Plan) (t h : ℕ) (f : Scene) (o : Option Carry) → IsPlan l s → h < l.hoists
+    → Shows s (clock t l.hoists h 0 0) f → f.carry h ≡ o → Shows s (clock t l.hoists (h + 1) 0 0) (lift_out_by l o f)
 lift_out_at l s t h f None plan there shows has =
     quiet l s t h f plan shows (λ c k v by at. let g = lifts l s t h c k f plan there shows v by at in let a = g.carried in cc)
 lift_out_at l s t h f (Some x) plan there shows has = lift_out_if l s t h f x (x.elapsed == l.lift x.step) plan there shows has refl
 
-pub lift_out_shows : (l : Layout) (s : Plan) (t h : ℕ) (f : Scene) → IsPlan l s → h < l.hoists → Shows s (clock t l.hoists h 0 0) f → Shows s (clock t l.hoists (h + 1) 0 0) (lift_out l h f)
+pub lift_out_shows : (l : Layout) (s : Plan) (t h : ℕ) (f : Scene) → IsPlan l s → h < l.hoists
+    → Shows s (clock t l.hoists h 0 0) f → Shows s (clock t l.hoists (h + 1) 0 0) (lift_out l h f)
 lift_out_shows l s t h f plan there shows = lift_out_at l s t h f (f.carry h) plan there shows refl

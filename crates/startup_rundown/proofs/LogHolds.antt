@@ -33,12 +33,14 @@ collect_has (suc n) h event w lt e =
     (λ below. Contains-append_left (collect n event) (given (event n)) w (collect_has n h event w (omega arith) e))
     (cases_eq h n)
 
-map_has : (t : ℕ) (xs : List What) (w : What) (k : ℕ) → k < length xs → slice_index_or xs k w ≡ w → Contains (map (at_tick t) xs) (at_tick t w)
+map_has : (t : ℕ) (xs : List What) (w : What) (k : ℕ) → k < length xs → slice_index_or xs k w ≡ w
+    → Contains (map (at_tick t) xs) (at_tick t w)
 map_has t [] w k lt e = absurd (omega arith)
 map_has t (x ∷ xs) w zero lt e = (0, omega arith, ap (at_tick t) e)
 map_has t (x ∷ xs) w (suc k) lt e = let r = map_has t xs w k (omega arith) e in (suc r.0, omega (arith, r.1), r.2)
 
-from_has : (l : LineData) (p : Timetable) (n first m t : ℕ) (e : Event) → first ≤ t → t ≤ first + m → Contains (events_at l p n t) e → Contains (events_from l p n first m) e
+from_has : (l : LineData) (p : Timetable) (n first m t : ℕ) (e : Event) → first ≤ t → t ≤ first + m
+    → Contains (events_at l p n t) e → Contains (events_from l p n first m) e
 from_has l p n first zero t e from to has = let same : t ≡ first = omega arith in subst (λ (u : ℕ). Contains (events_at l p n u) e) same has
 from_has l p n first (suc m) t e from to has =
     ⊎_elim
@@ -60,7 +62,8 @@ in_fourth : (a b c d : List What) (w : What) → Contains d w → Contains (a ++
 in_fourth a b c d w h = Contains-append_right (a ++ b ++ c) d w h
 
 -- what happens at a tick of the run is in its log
-logged : (l : LineData) (p : Timetable) (n t : ℕ) (w : What) → first_tick l p ≤ t → t ≤ last_tick l p n → Contains (whats_at l p n t) w → Logs l p n t w
+logged : (l : LineData) (p : Timetable) (n t : ℕ) (w : What) → first_tick l p ≤ t → t ≤ last_tick l p n
+    → Contains (whats_at l p n t) w → Logs l p n t w
 logged l p n t w from to has =
     from_has l p n (first_tick l p) (last_tick l p n - first_tick l p) t (at_tick t w) from (omega arith) (map_has t (whats_at l p n t) w has.0 has.1 has.2)
 
@@ -86,9 +89,11 @@ put_logged l p n c run there =
     let v = ticks l p n c 0 run (there, omega arith) in
     let is : put_at l p n t ≡ Some (Put c) = pick_is n c (λ d. run_put l p d == t) (λ d. Put d) there (eq-eqb t t refl) (λ d lt e.
     let same = eqb-true (run_put l p d) t e in
-    ⊎_elim (λ q. q) (λ other. ⊎_elim (λ less. absurd (omega (arith, puts_rise l p n d c run less))) (λ more. absurd (omega (arith, puts_rise l p n c d run more))) other) (cases_order d c)) in
+    ⊎_elim (λ q. q) (λ other. ⊎_elim (λ less. absurd (omega (arith, puts_rise l p n d c run less)))
+    (λ more. absurd (omega (arith, puts_rise l p n c d run more))) other) (cases_order d c)) in
     logged l p n t (Put c) v.rest_from (omega (arith, v.rest_lift, v.lift_leave, v.leave_to))
-    (in_third (collect l.hoists (set_at l p n t)) (given (off_at l p n t)) (given (put_at l p n t)) (collect l.hoists (begin_at l p n t)) (Put c) (given_has (put_at l p n t) (Put c) is))
+    (in_third (collect l.hoists (set_at l p n t)) (given (off_at l p n t)) (given (put_at l p n t))
+    (collect l.hoists (begin_at l p n t)) (Put c) (given_has (put_at l p n t) (Put c) is))
 
 off_logged : (l : LineData) (p : Timetable) (n c : ℕ) → IsRun l p n → c < n → Logs l p n (run_off l p c) (Off c)
 off_logged l p n c run there =
@@ -112,11 +117,14 @@ off_logged l p n c run there =
     let x = holds d lt in
     let y = holds c there in
     let at' = leaves_at l p n d in
-    (plan.hold_alone (t - 1) d last c last (lt, omega arith) v ((plan.offs d lt).tank ∙ sym (plan.offs c there).tank) (omega arith) (omega arith) (omega arith) (omega arith)).0) in
+    (plan.hold_alone (t - 1) d last c last (lt, omega arith) v ((plan.offs d lt).tank ∙ sym (plan.offs c there).tank)
+    (omega arith) (omega arith) (omega arith) (omega arith)).0) in
     logged l p n t (Off c) (omega (arith, w.rest_from, w.rest_lift, w.lift_leave)) (omega (arith, w.leave_to))
-    (in_second (collect l.hoists (set_at l p n t)) (given (off_at l p n t)) (given (put_at l p n t)) (collect l.hoists (begin_at l p n t)) (Off c) (given_has (off_at l p n t) (Off c) is))
+    (in_second (collect l.hoists (set_at l p n t)) (given (off_at l p n t)) (given (put_at l p n t))
+    (collect l.hoists (begin_at l p n t)) (Off c) (given_has (off_at l p n t) (Off c) is))
 
-begin_logged : (l : LineData) (p : Timetable) (n c k : ℕ) → IsRun l p n → c < n → k < last_stage l → Logs l p n (run_start l p c k) (Begin c k (run_hoist l p c k))
+begin_logged : (l : LineData) (p : Timetable) (n c k : ℕ) → IsRun l p n → c < n → k < last_stage l
+    → Logs l p n (run_start l p c k) (Begin c k (run_hoist l p c k))
 begin_logged l p n c k run there below =
     let t = run_start l p c k in
     let h = run_hoist l p c k in
@@ -131,7 +139,8 @@ begin_logged l p n c k run there below =
     (in_fourth (collect l.hoists (set_at l p n t)) (given (off_at l p n t)) (given (put_at l p n t)) (collect l.hoists (begin_at l p n t)) e
     (collect_has l.hoists h (begin_at l p n t) e (omega (arith, hoist.there, m.lifter)) is))
 
-set_logged : (l : LineData) (p : Timetable) (n c k : ℕ) → IsRun l p n → c < n → k < last_stage l → Logs l p n (run_end l p c k) (Set c (k + 1))
+set_logged : (l : LineData) (p : Timetable) (n c k : ℕ) → IsRun l p n → c < n → k < last_stage l
+    → Logs l p n (run_end l p c k) (Set c (k + 1))
 set_logged l p n c k run there below =
     let s = run_of l p n in
     let o = layout_of l in
@@ -142,8 +151,10 @@ set_logged l p n c k run there below =
     let m = moves_are l p n c k below in
     let w = ticks l p n c (k + 1) run (there, omega arith) in
     let hoist = plan.moves c k (there, below) in
-    let hit : ((run_hoist l p c k == h) && (run_end l p c k == t)) ≡ true = and_from (run_hoist l p c k == h) (run_end l p c k == t) (eq-eqb h h refl) (eq-eqb t t refl) in
-    let is : set_at l p n t h ≡ Some e = pick_move_is n (last_stage l) c k (λ d j. (run_hoist l p d j == h) && (run_end l p d j == t)) (λ d j. Set d (j + 1)) (there, below) hit
+    let hit : ((run_hoist l p c k == h) && (run_end l p c k == t))
+    ≡ true = and_from (run_hoist l p c k == h) (run_end l p c k == t) (eq-eqb h h refl) (eq-eqb t t refl) in
+    let is : set_at l p n t h ≡ Some e = pick_move_is n (last_stage l) c k
+    (λ d j. (run_hoist l p d j == h) && (run_end l p d j == t)) (λ d j. Set d (j + 1)) (there, below) hit
     (λ d j v q.
     let m' = moves_are l p n d j v.1 in
     let parts = and_parts (run_hoist l p d j == h) (run_end l p d j == t) q in
@@ -151,9 +162,12 @@ set_logged l p n c k run there below =
     let at = eqb-true (run_end l p d j) t parts.1 in
     let x = carry_order o s d j plan v in
     let y = carry_order o s c k plan (there, below) in
-    plan.carry_alone (t - 1) d j c k v (there, below) (m'.lifter ∙ by ∙ sym m.lifter) (omega (arith, m'.rest)) (omega (arith, m'.rest)) (omega (arith, m.rest)) (omega (arith, m.rest))) in
+    plan.carry_alone (t - 1) d j c k v (there, below) (m'.lifter ∙ by ∙ sym m.lifter) (omega (arith, m'.rest))
+    (omega (arith, m'.rest)) (omega (arith, m.rest)) (omega (arith, m.rest))) in
     logged l p n t e (omega (arith, w.rest_from, m.rest)) (omega (arith, w.rest_lift, w.lift_leave, w.leave_to, m.rest))
-    (in_first (collect l.hoists (set_at l p n t)) (given (off_at l p n t)) (given (put_at l p n t)) (collect l.hoists (begin_at l p n t)) e (collect_has l.hoists h (set_at l p n t) e (omega (arith, hoist.there, m.lifter)) is))
+    (in_first (collect l.hoists (set_at l p n t)) (given (off_at l p n t)) (given (put_at l p n t))
+    (collect l.hoists (begin_at l p n t)) e (collect_has l.hoists h (set_at l p n t) e
+    (omega (arith, hoist.there, m.lifter)) is))
 
 logs_all : (l : LineData) (p : Timetable) (n : ℕ) → IsRun l p n → LogsAll l p n
 logs_all l p n run = record {

@@ -18,14 +18,16 @@ use Rattle.startup_rundown.proofs.Picks.{pick_found, pick_move_found}
 -- ---- lists
 
 -- each of the first list stands in R to each of the second
-pairs_append : {X : Type 0} (R : X → X → Type 0) (xs ys : List X) → AllPairs R xs → AllPairs R ys → All (λ x. All (R x) ys) xs → AllPairs R (xs ++ ys)
+pairs_append : {X : Type 0} (R : X → X → Type 0) (xs ys : List X) → AllPairs R xs → AllPairs R ys
+    → All (λ x. All (R x) ys) xs → AllPairs R (xs ++ ys)
 pairs_append {X = X} R [] ys a b cross = b
 pairs_append {X = X} R (x ∷ xs) ys a b cross =
     let head : All (R x) xs = λ j d lt. a 0 (suc j) d (omega arith) (omega arith) in
     let tail : AllPairs R xs = λ i j d lt in_it. a (suc i) (suc j) d (omega arith) (omega arith) in
     AllPairs-cons R x (xs ++ ys) (All-append (R x) xs ys head (cross 0 x (omega arith))) (pairs_append R xs ys tail b (λ i d lt. cross (suc i) d (omega arith)))
 
-pairs_map : {X Y : Type 0} (R : Y → Y → Type 0) (f : X → Y) (xs : List X) → AllPairs (λ a b. R (f a) (f b)) xs → AllPairs R (map f xs)
+pairs_map : {X Y : Type 0} (R : Y → Y → Type 0) (f : X → Y) (xs : List X) → AllPairs (λ a b. R (f a) (f b)) xs
+    → AllPairs R (map f xs)
 pairs_map {X = X} {Y = Y} R f [] a = λ i j d lt in_it. absurd (omega arith)
 pairs_map {X = X} {Y = Y} R f (x ∷ xs) a =
     let head : All (λ y. R (f x) (f y)) xs = λ j d lt. a 0 (suc j) d (omega arith) (omega arith) in
@@ -40,10 +42,12 @@ pairs_given : (R : What → What → Type 0) (o : Option What) → AllPairs R (g
 pairs_given R None i j d lt in_it = absurd (omega arith)
 pairs_given R (Some w) i j d lt in_it = absurd (omega arith)
 
-all_collect : (P : What → Type 0) (n : ℕ) (event : ℕ → Option What) → ((h : ℕ) (w : What) → h < n → event h ≡ Some w → P w) → All P (collect n event)
+all_collect : (P : What → Type 0) (n : ℕ) (event : ℕ → Option What)
+    → ((h : ℕ) (w : What) → h < n → event h ≡ Some w → P w) → All P (collect n event)
 all_collect P zero event each = All-nil P
 all_collect P (suc n) event each =
-    All-append P (collect n event) (given (event n)) (all_collect P n event (λ h w lt e. each h w (omega arith) e)) (all_given P (event n) (λ w e. each n w (omega arith) e))
+    All-append P (collect n event) (given (event n)) (all_collect P n event (λ h w lt e. each h w (omega arith) e))
+    (all_given P (event n) (λ w e. each n w (omega arith) e))
 
 -- ---- inside a tick
 
@@ -56,7 +60,8 @@ UpTo q w = kind_rank w ≤ q
 
 -- of each hoist one of a kind at most
 pairs_collect : (l : LineData) (p : Timetable) (q n : ℕ) (event : ℕ → Option What)
-    → ((h : ℕ) (w : What) → event h ≡ Some w → (kind_rank w ≡ q) × (hoist_rank l p w ≡ h)) → AllPairs (IsAhead l p) (collect n event)
+    → ((h : ℕ) (w : What) → event h ≡ Some w → (kind_rank w ≡ q) × (hoist_rank l p w ≡ h))
+    → AllPairs (IsAhead l p) (collect n event)
 pairs_collect l p q zero event each = λ i j d lt in_it. absurd (omega arith)
 pairs_collect l p q (suc n) event each =
     let before : All (λ w. (kind_rank w ≡ q) × (hoist_rank l p w < n)) (collect n event) =
@@ -69,7 +74,8 @@ pairs_collect l p q (suc n) event each =
     let b = last j d' lt' in
     inr (a.0 ∙ sym b.0, omega (arith, a.1, b.1)))
 
-by_kind : (l : LineData) (p : Timetable) (q r : ℕ) (xs ys : List What) → q < r → All (UpTo q) xs → All (OfKind r) ys → All (λ x. All (IsAhead l p x) ys) xs
+by_kind : (l : LineData) (p : Timetable) (q r : ℕ) (xs ys : List What) → q < r → All (UpTo q) xs → All (OfKind r) ys
+    → All (λ x. All (IsAhead l p x) ys) xs
 by_kind l p q r xs ys lt a b i d in_xs j d' in_ys =
     let x = a i d in_xs in
     let y = b j d' in_ys in
@@ -78,7 +84,8 @@ by_kind l p q r xs ys lt a b i d in_xs j d' in_ys =
 up_to : (q r : ℕ) (xs : List What) → q ≤ r → All (OfKind q) xs → All (UpTo r) xs
 up_to q r xs le a i d lt = let x = a i d lt in omega (arith, x, le)
 
-set_is : (l : LineData) (p : Timetable) (n t h : ℕ) (w : What) → set_at l p n t h ≡ Some w → (kind_rank w ≡ 0) × (hoist_rank l p w ≡ h) × HappensAt l p n t w
+set_is : (l : LineData) (p : Timetable) (n t h : ℕ) (w : What) → set_at l p n t h ≡ Some w
+    → (kind_rank w ≡ 0) × (hoist_rank l p w ≡ h) × HappensAt l p n t w
 set_is l p n t h w e =
     let r = pick_move_found n (last_stage l) (λ c k. (run_hoist l p c k == h) && (run_end l p c k == t)) (λ c k. Set c (k + 1)) w e in
     let parts = and_parts (run_hoist l p r.0 r.1 == h) (run_end l p r.0 r.1 == t) r.3 in
@@ -89,19 +96,22 @@ set_is l p n t h w e =
     (refl, ap (run_hoist l p r.0) back ∙ by, (r.2.0, omega arith, omega (arith, r.2.1), sym at ∙ sym (ap (run_end l p r.0) back))) in
     subst (λ (x : What). (kind_rank x ≡ 0) × (hoist_rank l p x ≡ h) × HappensAt l p n t x) r.4 is
 
-off_is : (l : LineData) (p : Timetable) (n t : ℕ) (w : What) → off_at l p n t ≡ Some w → (kind_rank w ≡ 1) × HappensAt l p n t w
+off_is : (l : LineData) (p : Timetable) (n t : ℕ) (w : What) → off_at l p n t ≡ Some w
+    → (kind_rank w ≡ 1) × HappensAt l p n t w
 off_is l p n t w e =
     let r = pick_found n (λ c. run_off l p c == t) (λ c. Off c) w e in
     let is : (kind_rank (Off r.0) ≡ 1) × HappensAt l p n t (Off r.0) = (refl, (r.1, sym (eqb-true (run_off l p r.0) t r.2))) in
     subst (λ (x : What). (kind_rank x ≡ 1) × HappensAt l p n t x) r.3 is
 
-put_is : (l : LineData) (p : Timetable) (n t : ℕ) (w : What) → put_at l p n t ≡ Some w → (kind_rank w ≡ 2) × HappensAt l p n t w
+put_is : (l : LineData) (p : Timetable) (n t : ℕ) (w : What) → put_at l p n t ≡ Some w
+    → (kind_rank w ≡ 2) × HappensAt l p n t w
 put_is l p n t w e =
     let r = pick_found n (λ c. run_put l p c == t) (λ c. Put c) w e in
     let is : (kind_rank (Put r.0) ≡ 2) × HappensAt l p n t (Put r.0) = (refl, (r.1, sym (eqb-true (run_put l p r.0) t r.2))) in
     subst (λ (x : What). (kind_rank x ≡ 2) × HappensAt l p n t x) r.3 is
 
-begin_is : (l : LineData) (p : Timetable) (n t h : ℕ) (w : What) → begin_at l p n t h ≡ Some w → (kind_rank w ≡ 3) × (hoist_rank l p w ≡ h) × HappensAt l p n t w
+begin_is : (l : LineData) (p : Timetable) (n t h : ℕ) (w : What) → begin_at l p n t h ≡ Some w
+    → (kind_rank w ≡ 3) × (hoist_rank l p w ≡ h) × HappensAt l p n t w
 begin_is l p n t h w e =
     let r = pick_move_found n (last_stage l) (λ c k. (run_hoist l p c k == h) && (run_start l p c k == t)) (λ c k. Begin c k h) w e in
     let parts = and_parts (run_hoist l p r.0 r.1 == h) (run_start l p r.0 r.1 == t) r.3 in
@@ -141,7 +151,8 @@ whats_ordered l p n t =
     let upto1 : All (UpTo 1) (a ++ b) = All-append (UpTo 1) a b (up_to 0 1 a (omega arith) sets) (up_to 1 1 b (omega arith) offs) in
     let abc : AllPairs R (a ++ b ++ c) = pairs_append R (a ++ b) c ab (pairs_given R (put_at l p n t)) (by_kind l p 1 2 (a ++ b) c (omega arith) upto1 puts) in
     let upto2 : All (UpTo 2) (a ++ b ++ c) =
-    All-append (UpTo 2) (a ++ b) c (All-append (UpTo 2) a b (up_to 0 2 a (omega arith) sets) (up_to 1 2 b (omega arith) offs)) (up_to 2 2 c (omega arith) puts) in
+    All-append (UpTo 2) (a ++ b) c (All-append (UpTo 2) a b (up_to 0 2 a (omega arith) sets)
+    (up_to 1 2 b (omega arith) offs)) (up_to 2 2 c (omega arith) puts) in
     pairs_append R (a ++ b ++ c) d abc (pairs_collect l p 3 l.hoists (begin_at l p n t) (λ h w e. let x = begin_is l p n t h w e in (x.0, x.1)))
     (by_kind l p 2 3 (a ++ b ++ c) d (omega arith) upto2 begins)
 
@@ -176,7 +187,8 @@ from_ordered l p n first zero = events_ordered l p n first
 from_ordered l p n first (suc m) =
     let before = from_tick l p n first m in
     let last = events_tick l p n (first + suc m) in
-    pairs_append (IsEarlier l p) (events_from l p n first m) (events_at l p n (first + suc m)) (from_ordered l p n first m) (events_ordered l p n (first + suc m))
+    pairs_append (IsEarlier l p) (events_from l p n first m) (events_at l p n (first + suc m))
+    (from_ordered l p n first m) (events_ordered l p n (first + suc m))
     (λ i d lt j d' lt'.
     let a = before i d lt in
     let b = last j d' lt' in

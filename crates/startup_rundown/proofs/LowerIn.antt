@@ -25,7 +25,8 @@ record Lowers (l : Layout) (s : Plan) (t h c k : ℕ) (f : Scene) : Type 0 where
   carried : f.carry h ≡ Some (carry_of s t c j)
   begins : t - s.lift c j + l.lower (j + 1) ≡ length_of l (carry_of s t c j)
 
-lowers : (l : Layout) (s : Plan) (t h c k : ℕ) (f : Scene) → IsPlan l s → h < l.hoists → Shows s (lowering l t h) f → IsVisit s c k → s.lowerer c k ≡ h + 1 → s.enter c k ≡ t → Lowers l s t h c k f
+lowers : (l : Layout) (s : Plan) (t h c k : ℕ) (f : Scene) → IsPlan l s → h < l.hoists → Shows s (lowering l t h) f
+    → IsVisit s c k → s.lowerer c k ≡ h + 1 → s.enter c k ≡ t → Lowers l s t h c k f
 lowers l s t h c k f plan there shows v by at =
     ⊎_elim
     (λ zero_k. absurd (let e : s.lowerer c k ≡ s.lowerer c 0 = ap (s.lowerer c) zero_k in omega (arith, (plan.puts c v.0).lowerer)))
@@ -44,13 +45,15 @@ lowers l s t h c k f plan there shows v by at =
 quiet : (l : Layout) (s : Plan) (t h : ℕ) (f : Scene) → IsPlan l s → Shows s (lowering l t h) f
     → ((c k : ℕ) → IsVisit s c k → s.lowerer c k ≡ h + 1 → s.enter c k ≡ t → ⊥) → Shows s (lowering l t (h + 1)) f
 quiet l s t h f plan shows none = record {
-  holds = hold_same s _ _ f.hold shows.holds (λ c k v. low_agree s t (h + 1) (l.hoists + 1) (l.hoists + 1) 0 c k (still t (h + 1) (s.lowerer c k) (s.enter c k) (none c k v)));
+  holds = hold_same s _ _ f.hold shows.holds (λ c k v. low_agree s t (h + 1) (l.hoists + 1) (l.hoists + 1) 0 c k
+      (still t (h + 1) (s.lowerer c k) (s.enter c k) (none c k v)));
   carries = shows.carries;
   next = record { few = shows.next.few; below = shows.next.below; rest = shows.next.rest };
 }
 
 -- a tank that visit (c, k) enters at the tick is free before it does
-pub is_free : (l : Layout) (s : Plan) (t set n c k : ℕ) (f : Scene) (o : Option Hold) → IsPlan l s → Shows s (clock t set (l.hoists + 1) n 0) f
+pub is_free : (l : Layout) (s : Plan) (t set n c k : ℕ) (f : Scene) (o : Option Hold) → IsPlan l s
+    → Shows s (clock t set (l.hoists + 1) n 0) f
     → IsVisit s c k → s.enter c k ≡ t → s.lowerer c k ≡ n → t < s.leave c k → f.hold (s.tank c k) ≡ o → o ≡ None
 is_free l s t set n c k f None plan shows v at by stays has = refl
 is_free l s t set n c k f (Some y) plan shows v at by stays has =
@@ -63,14 +66,19 @@ is_free l s t set n c k f (Some y) plan shows v at by stays has =
     let b : s.lowerer y.carrier y.stage ≡ s.lowerer c k = ap (λ i. s.lowerer i y.stage) two.0 ∙ ap (s.lowerer c) two.1 in
     absurd (omega arith)
 
-only_lowering : (l : Layout) (s : Plan) (t h d m : ℕ) (r : Rest) → t < s.rest d m → s.rest d m ≤ s.lift d m → IsHeld s (lowering l t h) d m r → r ≡ Lowering
+only_lowering : (l : Layout) (s : Plan) (t h d m : ℕ) (r : Rest) → t < s.rest d m → s.rest d m ≤ s.lift d m
+    → IsHeld s (lowering l t h) d m r → r ≡ Lowering
 only_lowering l s t h d m Lowering at le held = refl
 only_lowering l s t h d m (Resting age) at le held = absurd (omega (arith, held.2.0))
 only_lowering l s t h d m Lifting at le held = absurd (omega (arith, held.2.0))
 
-lower_in_if : (l : Layout) (s : Plan) (t h : ℕ) (f : Scene) (x : Carry) (b : Bool) → IsPlan l s → h < l.hoists → Shows s (lowering l t h) f → f.carry h ≡ Some x → lowers_now l x ≡ b
+lower_in_if : (l : Layout) (s : Plan) (t h : ℕ) (f : Scene) (x : Carry) (b : Bool) → IsPlan l s → h < l.hoists
+    → Shows s (lowering l t h) f → f.carry h ≡ Some x → lowers_now l x ≡ b
     → (cond b (held x.to (f.hold x.to)) None ≡ None)
-    × Shows s (lowering l t (h + 1)) (cond b (record f { hold = with f.hold x.to (Some (record { carrier = x.carrier; stage = x.step + 1; rest = Lowering })) }) f)
+    × Shows s (lowering l t (h + 1)) (cond b (record f {
+      hold = with f.hold x.to
+          (Some (record { carrier = x.carrier; stage = x.step + 1; rest = Lowering }));
+    }) f)
 lower_in_if l s t h f x false plan there shows has test = (
   refl,
   quiet l s t h f plan shows
@@ -97,7 +105,8 @@ lower_in_if l s t h f x true plan there shows has test =
     let a = rest_lift l s d (m + 1) plan visit in
     let b = lift_leave l s d (m + 1) plan visit in
     let late : t < s.rest d (m + 1) = omega (arith, mv.lower_takes) in
-    let was : f.hold (s.tank d (m + 1)) ≡ None = is_free l s t (l.hoists + 1) (h + 1) d (m + 1) f (f.hold (s.tank d (m + 1))) plan shows visit at by (omega arith) refl in
+    let was : f.hold (s.tank d (m + 1)) ≡ None = is_free l s t (l.hoists + 1) (h + 1) d (m + 1) f
+    (f.hold (s.tank d (m + 1))) plan shows visit at by (omega arith) refl in
     let free : f.hold x.to ≡ None = ap f.hold (sym tank) ∙ was in (
       ap (held x.to) free,
       record {
@@ -116,12 +125,14 @@ lower_in_if l s t h f x true plan there shows has test =
       },
     )
 
-lower_in_at : (l : Layout) (s : Plan) (t h : ℕ) (f : Scene) (o : Option Carry) → IsPlan l s → h < l.hoists → Shows s (lowering l t h) f → f.carry h ≡ o
+lower_in_at : (l : Layout) (s : Plan) (t h : ℕ) (f : Scene) (o : Option Carry) → IsPlan l s → h < l.hoists
+    → Shows s (lowering l t h) f → f.carry h ≡ o
     → (no_lowering_by l o f ≡ None) × Shows s (lowering l t (h + 1)) (lower_in_by l o f)
 lower_in_at l s t h f None plan there shows has =
     (refl, quiet l s t h f plan shows (λ c k v by at. let g = lowers l s t h c k f plan there shows v by at in let a = g.carried in cc))
 lower_in_at l s t h f (Some x) plan there shows has = lower_in_if l s t h f x (lowers_now l x) plan there shows has refl
 
-pub lower_in_shows : (l : Layout) (s : Plan) (t h : ℕ) (f : Scene) → IsPlan l s → h < l.hoists → Shows s (lowering l t h) f
+pub lower_in_shows : (l : Layout) (s : Plan) (t h : ℕ) (f : Scene) → IsPlan l s → h < l.hoists
+    → Shows s (lowering l t h) f
     → (no_lowering l h f ≡ None) × Shows s (lowering l t (h + 1)) (lower_in l h f)
 lower_in_shows l s t h f plan there shows = lower_in_at l s t h f (f.carry h) plan there shows refl

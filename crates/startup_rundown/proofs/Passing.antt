@@ -21,14 +21,16 @@ use Rattle.startup_rundown.proofs.Begins.{beginning}
 abbrev pub whole : Layout → ℕ → Clock
 whole l t = beginning l t l.hoists
 
-busy_fine : (h : ℕ) (ends : Bool) (begin : Option ℕ) → ((to : ℕ) → begin ≡ Some to → ends ≡ true) → busy_by h ends Stay begin ≡ None
+busy_fine : (h : ℕ) (ends : Bool) (begin : Option ℕ) → ((to : ℕ) → begin ≡ Some to → ends ≡ true)
+    → busy_by h ends Stay begin ≡ None
 busy_fine h true None fine = refl
 busy_fine h false None fine = refl
 busy_fine h true (Some to) fine = refl
 busy_fine h false (Some to) fine = absurd (let e = fine to refl in cc)
 
 -- a hoist that begins at the next tick ends its carry there
-ends_before : (l : Layout) (s : Plan) (t h to : ℕ) (o : Command) (f : Scene) (x : Carry) → IsPlan l s → Orders s (t + 1) o → h < l.hoists → Shows s (whole l t) f → f.carry h ≡ Some x → o.begin h ≡ Some to
+ends_before : (l : Layout) (s : Plan) (t h to : ℕ) (o : Command) (f : Scene) (x : Carry) → IsPlan l s
+    → Orders s (t + 1) o → h < l.hoists → Shows s (whole l t) f → f.carry h ≡ Some x → o.begin h ≡ Some to
     → x.elapsed + 1 ≡ length_of l x
 ends_before l s t h to o f x plan orders there shows has begins =
     let ev = orders.begin h to begins in
@@ -38,39 +40,51 @@ ends_before l s t h to o f x plan orders there shows has begins =
     let long : length_of l x ≡ move_ticks l x.step (s.tank x.carrier x.step) (s.tank x.carrier (x.step + 1)) = ap (length_of l) g.3 in
     ⊎_elim
     (λ more.
-    let two = plan.carry_alone (t + 1) x.carrier x.step ev.c ev.k g.0 ev.there (g.1 ∙ sym ev.by) (omega (arith, g.2.0)) more (omega (arith, ev.at)) (omega (arith, ev.at, carry_order l s ev.c ev.k plan ev.there)) in
+    let two = plan.carry_alone (t + 1) x.carrier x.step ev.c ev.k g.0 ev.there (g.1 ∙ sym ev.by)
+    (omega (arith, g.2.0)) more (omega (arith, ev.at)) (omega (
+      arith,
+      ev.at,
+      carry_order l s ev.c ev.k plan ev.there,
+    )) in
     let same : s.lift x.carrier x.step ≡ s.lift ev.c ev.k = ap (λ i. s.lift i x.step) two.0 ∙ ap (s.lift ev.c) two.1 in
     absurd (omega (arith, g.2.0, g.1, ev.at)))
     (λ here. omega (arith, g.2.0, g.2.1, g.1, m.lasts))
     (cases_lt (t + 1) (s.rest x.carrier (x.step + 1)))
 
-stays_on : (l : Layout) (s : Plan) (pos : ℕ → ℕ → ℕ) (t h : ℕ) (o : Command) (f : Scene) (x : Carry) → Motions l s pos t o → h < l.hoists → Shows s (whole l t) f → f.carry h ≡ Some x → o.go h ≡ Stay
+stays_on : (l : Layout) (s : Plan) (pos : ℕ → ℕ → ℕ) (t h : ℕ) (o : Command) (f : Scene) (x : Carry)
+    → Motions l s pos t o → h < l.hoists → Shows s (whole l t) f → f.carry h ≡ Some x → o.go h ≡ Stay
 stays_on l s pos t h o f x motions there shows has =
     let g = shows.carries.carries h x has in
     ap o.go (sym g.1) ∙ motions.stays x.carrier x.step g.0 (omega (arith, g.2.0, g.1)) (omega (arith, g.2.1, g.1))
 
-busy_at : (l : Layout) (s : Plan) (pos : ℕ → ℕ → ℕ) (t h : ℕ) (o : Command) (f : Scene) (c : Option Carry) → IsPlan l s → Orders s (t + 1) o → Motions l s pos t o → h < l.hoists → Shows s (whole l t) f → f.carry h ≡ c
+busy_at : (l : Layout) (s : Plan) (pos : ℕ → ℕ → ℕ) (t h : ℕ) (o : Command) (f : Scene) (c : Option Carry) → IsPlan l s
+    → Orders s (t + 1) o → Motions l s pos t o → h < l.hoists → Shows s (whole l t) f → f.carry h ≡ c
     → busy_carry l h c (o.go h) (o.begin h) ≡ None
 busy_at l s pos t h o f None plan orders motions there shows has = refl
 busy_at l s pos t h o f (Some x) plan orders motions there shows has =
     ap (λ (go : Go). busy_by h (x.elapsed + 1 == length_of l x) go (o.begin h)) (stays_on l s pos t h o f x motions there shows has)
-    ∙ busy_fine h (x.elapsed + 1 == length_of l x) (o.begin h) (λ to e. eq-eqb (x.elapsed + 1) (length_of l x) (ends_before l s t h to o f x plan orders there shows has e))
+    ∙ busy_fine h (x.elapsed + 1 == length_of l x) (o.begin h)
+    (λ to e. eq-eqb (x.elapsed + 1) (length_of l x) (ends_before l s t h to o f x plan orders there shows has e))
 
-pub busy_none : (l : Layout) (s : Plan) (pos : ℕ → ℕ → ℕ) (t h : ℕ) (o : Command) (f : Scene) → IsPlan l s → Orders s (t + 1) o → Motions l s pos t o → h < l.hoists → Shows s (whole l t) f
+pub busy_none : (l : Layout) (s : Plan) (pos : ℕ → ℕ → ℕ) (t h : ℕ) (o : Command) (f : Scene) → IsPlan l s
+    → Orders s (t + 1) o → Motions l s pos t o → h < l.hoists → Shows s (whole l t) f
     → busy l o f h ≡ None
 busy_none l s pos t h o f plan orders motions there shows = busy_at l s pos t h o f (f.carry h) plan orders motions there shows refl
 
 -- a hoist that carries nothing goes where the positions go
-moves_free : (l : Layout) (h track from to at : ℕ) (go : Go) → Goes go from to → at ≡ from → to ≤ l.track → (edge_by l h None go at ≡ None) × (moved_to l None go at ≡ to)
+moves_free : (l : Layout) (h track from to at : ℕ) (go : Go) → Goes go from to → at ≡ from → to ≤ l.track
+    → (edge_by l h None go at ≡ None) × (moved_to l None go at ≡ to)
 moves_free l h track from to at Stay goes is within = (refl, is ∙ sym goes)
 moves_free l h track from to at Low goes is within = (cond-false (at == 0) _ _ (ne_eqb at 0 (λ e. omega arith)), omega arith)
 moves_free l h track from to at High goes is within = (cond-true (nat_lt at l.track) _ _ (lt-ltb at l.track (omega arith)), omega arith)
 
-moves_at : (l : Layout) (s : Plan) (pos : ℕ → ℕ → ℕ) (t h : ℕ) (o : Command) (f : Scene) (c : Option Carry) → IsPlan l s → IsTracked l s pos → Motions l s pos t o → h < l.hoists → Shows s (whole l t) f → f.at h ≡ pos h t → f.carry h ≡ c
+moves_at : (l : Layout) (s : Plan) (pos : ℕ → ℕ → ℕ) (t h : ℕ) (o : Command) (f : Scene) (c : Option Carry) → IsPlan l s
+    → IsTracked l s pos → Motions l s pos t o → h < l.hoists → Shows s (whole l t) f → f.at h ≡ pos h t → f.carry h ≡ c
     → (edge_by l h c (o.go h) (f.at h) ≡ None) × (moved_to l c (o.go h) (f.at h) ≡ pos h (t + 1))
 moves_at l s pos t h o f None plan track motions there shows at has =
     moves_free l h l.track (pos h t) (pos h (t + 1)) (f.at h) (o.go h)
-    (motions.goes h there (λ c k v by from to. let no : f.carry (s.lifter c k) ≡ None = ap f.carry by ∙ has in let g = shows.carries.carried c k v (omega arith, omega arith) in cc))
+    (motions.goes h there (λ c k v by from to. let no : f.carry (s.lifter c k) ≡ None = ap f.carry by
+    ∙ has in let g = shows.carries.carried c k v (omega arith, omega arith) in cc))
     at (track.within h (t + 1) there)
 moves_at l s pos t h o f (Some x) plan track motions there shows at has =
     let g = shows.carries.carries h x has in
@@ -79,13 +93,15 @@ moves_at l s pos t h o f (Some x) plan track motions there shows at has =
     let m = plan.moves c k g.0 in
     let u = t - s.lift c k + 1 in
     let stay = stays_on l s pos t h o f x motions there shows has in
-    let is : move_place l x.step x.from x.to (x.elapsed + 1) ≡ move_place l k (s.tank c k) (s.tank c (k + 1)) u = ap (λ (y : Carry). move_place l y.step y.from y.to (y.elapsed + 1)) g.3 in
+    let is : move_place l x.step x.from x.to (x.elapsed + 1) ≡ move_place l k (s.tank c k) (s.tank c (k + 1)) u = ap
+    (λ (y : Carry). move_place l y.step y.from y.to (y.elapsed + 1)) g.3 in
     let on = track.moves c k u g.0 (omega (arith, m.lasts, g.2.0, g.2.1, g.1)) in
     let tick : s.lift c k + u ≡ t + 1 = omega (arith, g.2.0, g.1) in
     let here : pos (s.lifter c k) (s.lift c k + u) ≡ pos h (t + 1) = ap (λ i. pos i (s.lift c k + u)) g.1 ∙ ap (pos h) tick in
     (ap (λ (go : Go). edge_by l h (Some x) go (f.at h)) stay, is ∙ sym on ∙ here)
 
-pub moves_none : (l : Layout) (s : Plan) (pos : ℕ → ℕ → ℕ) (t h : ℕ) (o : Command) (f : Scene) → IsPlan l s → IsTracked l s pos → Motions l s pos t o → h < l.hoists → Shows s (whole l t) f → f.at h ≡ pos h t
+pub moves_none : (l : Layout) (s : Plan) (pos : ℕ → ℕ → ℕ) (t h : ℕ) (o : Command) (f : Scene) → IsPlan l s
+    → IsTracked l s pos → Motions l s pos t o → h < l.hoists → Shows s (whole l t) f → f.at h ≡ pos h t
     → (edge l o f h ≡ None) × ((moved l o f).at h ≡ pos h (t + 1))
 moves_none l s pos t h o f plan track motions there shows at = moves_at l s pos t h o f (f.carry h) plan track motions there shows at refl
 
@@ -95,7 +111,8 @@ record Younger (l : Layout) (s : Plan) (t c k : ℕ) (r : Rest) : Type 0 where
   held : IsHeld s (whole l t) c k before
   grows : older before ≡ r
 
-younger : (l : Layout) (s : Plan) (t c k : ℕ) (r : Rest) → IsPlan l s → IsVisit s c k → IsHeld s (clock (t + 1) 0 0 0 0) c k r → Younger l s t c k r
+younger : (l : Layout) (s : Plan) (t c k : ℕ) (r : Rest) → IsPlan l s → IsVisit s c k
+    → IsHeld s (clock (t + 1) 0 0 0 0) c k r → Younger l s t c k r
 younger l s t c k Lowering plan v h =
     let a = lifter_in l s c k plan v in let b = setter_in l s c k plan v in
     record { before = Lowering; held = (omega (arith, h.0, b.1), omega (arith, h.1), omega (arith, h.2)); grows = refl }
@@ -118,8 +135,10 @@ younger l s t c k Lifting plan v h =
     (cases_eq k s.last) in
     record { before = Lifting; held = (omega (arith, h.0, b.1), omega (arith, h.1), (omega (arith, h.2.0, b.0), omega (arith, h.2.1))); grows = refl }
 
-elder : (l : Layout) (s : Plan) (t c k : ℕ) (r : Rest) → IsPlan l s → IsVisit s c k → IsHeld s (whole l t) c k r → IsHeld s (clock (t + 1) 0 0 0 0) c k (older r)
-elder l s t c k Lowering plan v h = let a = lifter_in l s c k plan v in let b = setter_in l s c k plan v in (omega (arith, h.0), omega (arith, h.1), omega (arith, h.2, b.0))
+elder : (l : Layout) (s : Plan) (t c k : ℕ) (r : Rest) → IsPlan l s → IsVisit s c k → IsHeld s (whole l t) c k r
+    → IsHeld s (clock (t + 1) 0 0 0 0) c k (older r)
+elder l s t c k Lowering plan v h = let a = lifter_in l s c k plan v in let b = setter_in l s c k plan
+    v in (omega (arith, h.0), omega (arith, h.1), omega (arith, h.2, b.0))
 elder l s t c k (Resting age) plan v h =
     let a = lifter_in l s c k plan v in let b = setter_in l s c k plan v in
     let later : t + 1 ≤ s.lift c k = ⊎_elim
@@ -132,7 +151,8 @@ elder l s t c k (Resting age) plan v h =
     (omega (arith, h.0), omega (arith, h.1), (omega (arith, h.2.0), omega arith, omega (arith, h.2.2)))
 elder l s t c k Lifting plan v h = let a = lifter_in l s c k plan v in (omega (arith, h.0), omega (arith, h.1), (omega (arith, h.2.0), omega (arith, h.2.1)))
 
-hold_before : (l : Layout) (s : Plan) (t i : ℕ) (f : Scene) (o : Option Hold) (x : Hold) → IsPlan l s → Shows s (whole l t) f → f.hold i ≡ o → option_map aged_hold o ≡ Some x
+hold_before : (l : Layout) (s : Plan) (t i : ℕ) (f : Scene) (o : Option Hold) (x : Hold) → IsPlan l s
+    → Shows s (whole l t) f → f.hold i ≡ o → option_map aged_hold o ≡ Some x
     → IsVisit s x.carrier x.stage × (s.tank x.carrier x.stage ≡ i) × IsHeld s (clock (t + 1) 0 0 0 0) x.carrier x.stage x.rest
 hold_before l s t i f None x plan shows has e = absurd (let g = e in cc)
 hold_before l s t i f (Some y) x plan shows has e =
@@ -141,19 +161,30 @@ hold_before l s t i f (Some y) x plan shows has e =
     subst (λ (z : Hold). IsVisit s z.carrier z.stage × (s.tank z.carrier z.stage ≡ i) × IsHeld s (clock (t + 1) 0 0 0 0) z.carrier z.stage z.rest) same
     (g.0, g.1, elder l s t y.carrier y.stage y.rest plan g.0 g.2)
 
-carry_before : (l : Layout) (s : Plan) (t h : ℕ) (f : Scene) (o : Option Carry) (x : Carry) → IsPlan l s → Shows s (whole l t) f → f.carry h ≡ o → option_map grown o ≡ Some x
-    → IsMove s x.carrier x.step × (s.lifter x.carrier x.step ≡ h) × IsCarried s (clock (t + 1) 0 0 0 0) x.carrier x.step × (x ≡ carry_of s (t + 1) x.carrier x.step)
+carry_before : (l : Layout) (s : Plan) (t h : ℕ) (f : Scene) (o : Option Carry) (x : Carry) → IsPlan l s
+    → Shows s (whole l t) f → f.carry h ≡ o → option_map grown o ≡ Some x
+    → IsMove s x.carrier x.step × (s.lifter x.carrier x.step ≡ h) × IsCarried s (clock (t + 1) 0 0 0 0) x.carrier x.step
+    × (x ≡ carry_of s (t + 1) x.carrier x.step)
 carry_before l s t h f None x plan shows has e = absurd (let g = e in cc)
 carry_before l s t h f (Some y) x plan shows has e =
     let g = shows.carries.carries h y has in
     let same : grown y ≡ x = cc in
     let there = (plan.moves y.carrier y.step g.0).there in
     let n : t - s.lift y.carrier y.step + 1 ≡ t + 1 - s.lift y.carrier y.step = omega (arith, g.2.0) in
-    let is : grown y ≡ carry_of s (t + 1) y.carrier y.step = ap grown g.3 ∙ ap (λ (m : ℕ). record { carrier = y.carrier; step = y.step; elapsed = m; from = s.tank y.carrier y.step; to = s.tank y.carrier (y.step + 1) }) n in
-    subst (λ (z : Carry). IsMove s z.carrier z.step × (s.lifter z.carrier z.step ≡ h) × IsCarried s (clock (t + 1) 0 0 0 0) z.carrier z.step × (z ≡ carry_of s (t + 1) z.carrier z.step)) same
+    let is : grown y ≡ carry_of s (t + 1) y.carrier y.step = ap grown g.3
+    ∙ ap (λ (m : ℕ). record {
+      carrier = y.carrier;
+      step = y.step;
+      elapsed = m;
+      from = s.tank y.carrier y.step;
+      to = s.tank y.carrier (y.step + 1);
+    }) n in
+    subst (λ (z : Carry). IsMove s z.carrier z.step × (s.lifter z.carrier z.step ≡ h)
+    × IsCarried s (clock (t + 1) 0 0 0 0) z.carrier z.step × (z ≡ carry_of s (t + 1) z.carrier z.step)) same
     (g.0, g.1, (omega (arith, g.2.0), omega (arith, g.2.1)), is)
 
-pub passing_shows : (l : Layout) (s : Plan) (t : ℕ) (o : Command) (f : Scene) → IsPlan l s → Shows s (whole l t) f → Shows s (clock (t + 1) 0 0 0 0) (aged (moved l o f))
+pub passing_shows : (l : Layout) (s : Plan) (t : ℕ) (o : Command) (f : Scene) → IsPlan l s → Shows s (whole l t) f
+    → Shows s (clock (t + 1) 0 0 0 0) (aged (moved l o f))
 passing_shows l s t o f plan shows = record {
   holds = record {
     held = λ c k r v q.

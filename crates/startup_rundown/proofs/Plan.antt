@@ -14,7 +14,8 @@ pub record Plan : Type 0 where
   pub lift : ℕ → ℕ → ℕ
   pub leave : ℕ → ℕ → ℕ
   pub tank : ℕ → ℕ → ℕ
-  -- who lowers, sets down and lifts out. Hoist h is h + 1 at lowering, where the put is 0; else it is h, and the put and the off are `hoists`
+  -- who lowers, sets down and lifts out. Hoist h is h + 1 at lowering, where the put is 0; else it is h, and the put
+  -- and the off are `hoists`
   pub lowerer : ℕ → ℕ → ℕ
   pub setter : ℕ → ℕ → ℕ
   pub lifter : ℕ → ℕ → ℕ
@@ -107,5 +108,6 @@ Goes High from to = to ≡ from + 1
 -- the order that leads from tick t to the next, in its motions
 pub record Motions (l : Layout) (s : Plan) (pos : ℕ → ℕ → ℕ) (t : ℕ) (o : Command) : Type 0 where
   pub stays : (c k : ℕ) → IsMove s c k → s.lift c k ≤ t → t < s.rest c (k + 1) → o.go (s.lifter c k) ≡ Stay
-  pub goes : (h : ℕ) → h < l.hoists → ((c k : ℕ) → IsMove s c k → s.lifter c k ≡ h → s.lift c k ≤ t → t < s.rest c (k + 1) → ⊥)
+  pub goes : (h : ℕ) → h < l.hoists
+      → ((c k : ℕ) → IsMove s c k → s.lifter c k ≡ h → s.lift c k ≤ t → t < s.rest c (k + 1) → ⊥)
       → Goes (o.go h) (pos h t) (pos h (t + 1))

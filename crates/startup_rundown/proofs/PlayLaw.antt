@@ -25,7 +25,9 @@ use Rattle.startup_rundown.proofs.LogLaw.{events_are}
 abbrev pub start : Layout → (ℕ → ℕ → ℕ) → ℕ → Scene
 start l pos first = empty_scene l (λ h. pos h first)
 
-begins : (l : Layout) (s : Plan) (pos : ℕ → ℕ → ℕ) (t : ℕ) (o : Command) → IsPlan l s → ((h : ℕ) → h < l.hoists → o.go h ≡ Stay) → ((c k : ℕ) → IsVisit s c k → t ≤ s.enter c k) → Passed l s pos t o (start l pos t)
+begins : (l : Layout) (s : Plan) (pos : ℕ → ℕ → ℕ) (t : ℕ) (o : Command) → IsPlan l s
+    → ((h : ℕ) → h < l.hoists → o.go h ≡ Stay) → ((c k : ℕ) → IsVisit s c k → t ≤ s.enter c k)
+    → Passed l s pos t o (start l pos t)
 begins l s pos t o plan stays starts = record {
   no_busy = λ h lt. refl;
   no_edge = λ h lt. ap (λ (go : Go). edge_by l h None go ((start l pos t).at h)) (stays h lt);
@@ -36,7 +38,13 @@ begins l s pos t o plan stays starts = record {
       holds = λ i x e. absurd (let g = e in cc);
     };
     carries = record {
-      carried = λ c k v q. absurd (let w : IsVisit s c k = (v.0, omega (arith, v.1)) in omega (arith, q.0, starts c k w, enter_rest l s c k plan w, rest_lift l s c k plan w));
+      carried = λ c k v q. absurd (let w : IsVisit s c k = (v.0, omega (arith, v.1)) in omega (
+        arith,
+        q.0,
+        starts c k w,
+        enter_rest l s c k plan w,
+        rest_lift l s c k plan w,
+      ));
       carries = λ h x e. absurd (let g = e in cc);
     };
     next = record {
@@ -53,7 +61,8 @@ record Stepped (l : Layout) (s : Plan) (pos : ℕ → ℕ → ℕ) (t : ℕ) (o 
   at : IsAt l s pos t frame
   is : next_step l t o (Ok p) ≡ Ok (record { frame = frame; log = p.log ++ events_at l s t })
 
-stepped : (l : Layout) (s : Plan) (pos : ℕ → ℕ → ℕ) (t : ℕ) (o : Command) (p : Reached) → IsPlan l s → IsTracked l s pos → Orders s t o → Passed l s pos t o p.frame → Stepped l s pos t o p
+stepped : (l : Layout) (s : Plan) (pos : ℕ → ℕ → ℕ) (t : ℕ) (o : Command) (p : Reached) → IsPlan l s → IsTracked l s pos
+    → Orders s t o → Passed l s pos t o p.frame → Stepped l s pos t o p
 stepped l s pos t o p plan track orders passed =
     let e = events l s pos t o p.frame plan track orders passed in
     let g = after_begin l o p.frame in
@@ -66,10 +75,12 @@ record GotTo (l : Layout) (s : Plan) (pos : ℕ → ℕ → ℕ) (orders : ℕ �
   at : IsAt l s pos (first + n) frame
   is : steps l orders first (record { frame = start l pos first; log = [] }) n ≡ Ok (record { frame = frame; log = log_until l s first n })
 
-got_to : (l : Layout) (s : Plan) (pos : ℕ → ℕ → ℕ) (orders : ℕ → Command) (first n : ℕ) → IsPlan l s → IsTracked l s pos → IsDriven l s pos orders first → GotTo l s pos orders first n
+got_to : (l : Layout) (s : Plan) (pos : ℕ → ℕ → ℕ) (orders : ℕ → Command) (first n : ℕ) → IsPlan l s → IsTracked l s pos
+    → IsDriven l s pos orders first → GotTo l s pos orders first n
 got_to l s pos orders first zero plan track driven =
     let p : Reached = record { frame = start l pos first; log = [] } in
-    let g = stepped l s pos first (orders first) p plan track (driven.events first (omega arith)) (begins l s pos first (orders first) plan driven.still driven.starts) in
+    let g = stepped l s pos first (orders first) p plan track (driven.events first (omega arith))
+    (begins l s pos first (orders first) plan driven.still driven.starts) in
     let e : first ≡ first + 0 = omega arith in
     record { frame = g.frame; at = subst (λ (t : ℕ). IsAt l s pos t g.frame) e g.at; is = g.is }
 got_to l s pos orders first (suc n) plan track driven =
@@ -92,32 +103,51 @@ got_to l s pos orders first (suc n) plan track driven =
     let g = stepped l s pos u o p plan track os (subst (λ (v : ℕ). Passed l s pos v o r.frame) e passed) in
     record { frame = g.frame; at = g.at; is = ap (next_step l u o) r.is ∙ g.is }
 
-no_hold : (l : Layout) (s : Plan) (t i : ℕ) (f : Scene) (o : Option Hold) → IsPlan l s → Shows s (whole l t) f → ((c k : ℕ) → IsVisit s c k → s.leave c k ≤ t) → f.hold i ≡ o → o ≡ None
+no_hold : (l : Layout) (s : Plan) (t i : ℕ) (f : Scene) (o : Option Hold) → IsPlan l s → Shows s (whole l t) f
+    → ((c k : ℕ) → IsVisit s c k → s.leave c k ≤ t) → f.hold i ≡ o → o ≡ None
 no_hold l s t i f None plan shows over has = refl
 no_hold l s t i f (Some x) plan shows over has =
     let g = shows.holds.holds i x has in
     absurd (omega (arith, over x.carrier x.stage g.0, g.2.1, lifter_in l s x.carrier x.stage plan g.0))
 
-no_carry : (l : Layout) (s : Plan) (t h : ℕ) (f : Scene) (o : Option Carry) → IsPlan l s → Shows s (whole l t) f → ((c k : ℕ) → IsVisit s c k → s.leave c k ≤ t) → f.carry h ≡ o → o ≡ None
+no_carry : (l : Layout) (s : Plan) (t h : ℕ) (f : Scene) (o : Option Carry) → IsPlan l s → Shows s (whole l t) f
+    → ((c k : ℕ) → IsVisit s c k → s.leave c k ≤ t) → f.carry h ≡ o → o ≡ None
 no_carry l s t h f None plan shows over has = refl
 no_carry l s t h f (Some x) plan shows over has =
     let g = shows.carries.carries h x has in
     let v : IsVisit s x.carrier (x.step + 1) = (g.0.0, omega (arith, g.0.1)) in
-    absurd (omega (arith, over x.carrier (x.step + 1) v, g.2.1, rest_lift l s x.carrier (x.step + 1) plan v, lift_leave l s x.carrier (x.step + 1) plan v, (plan.moves x.carrier x.step g.0).there))
+    absurd (omega (
+      arith,
+      over x.carrier (x.step + 1) v,
+      g.2.1,
+      rest_lift l s x.carrier (x.step + 1) plan v,
+      lift_leave l s x.carrier (x.step + 1) plan v,
+      (plan.moves x.carrier x.step g.0).there,
+    ))
 
-all_on : (l : Layout) (s : Plan) (t : ℕ) (f : Scene) → IsPlan l s → Shows s (whole l t) f → ((c k : ℕ) → IsVisit s c k → s.leave c k ≤ t) → f.next ≡ s.carriers
+all_on : (l : Layout) (s : Plan) (t : ℕ) (f : Scene) → IsPlan l s → Shows s (whole l t) f
+    → ((c k : ℕ) → IsVisit s c k → s.leave c k ≤ t) → f.next ≡ s.carriers
 all_on l s t f plan shows over =
     ⊎_elim (λ e. e)
     (λ ne.
     let lt : f.next < s.carriers = omega (arith, shows.next.few) in
     let v : IsVisit s f.next 0 = (lt, omega arith) in
-    absurd (omega (arith, shows.next.rest f.next lt (omega arith), (plan.puts f.next lt).setter, over f.next 0 v, rest_lift l s f.next 0 plan v, lift_leave l s f.next 0 plan v)))
+    absurd (omega (
+      arith,
+      shows.next.rest f.next lt (omega arith),
+      (plan.puts f.next lt).setter,
+      over f.next 0 v,
+      rest_lift l s f.next 0 plan v,
+      lift_leave l s f.next 0 plan v,
+    )))
     (cases_eq f.next s.carriers)
 
 -- the run is played to its end, the frame is empty then, and the log is that of the plan
-pub plays_through : (l : Layout) (s : Plan) (pos : ℕ → ℕ → ℕ) (orders : ℕ → Command) (first last : ℕ) → IsPlan l s → IsTracked l s pos → IsDriven l s pos orders first → first ≤ last
+pub plays_through : (l : Layout) (s : Plan) (pos : ℕ → ℕ → ℕ) (orders : ℕ → Command) (first last : ℕ) → IsPlan l s
+    → IsTracked l s pos → IsDriven l s pos orders first → first ≤ last
     → ((c k : ℕ) → IsVisit s c k → s.leave c k ≤ last)
-    → (f : Scene) × (run l (λ h. pos h first) orders first last ≡ Ok (record { frame = f; log = log_until l s first (last - first) })) × IsEmpty f × (f.next ≡ s.carriers)
+    → (f : Scene) × (run l (λ h. pos h first) orders first last
+    ≡ Ok (record { frame = f; log = log_until l s first (last - first) })) × IsEmpty f × (f.next ≡ s.carriers)
 plays_through l s pos orders first last plan track driven le over =
     let n = last - first in
     let end : first + n ≡ last = omega arith in

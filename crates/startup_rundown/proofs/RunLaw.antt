@@ -24,7 +24,8 @@ use Rattle.startup_rundown.proofs.RunPlan.{IsRun, run_is, run_of, run_plan, run_
 use Rattle.startup_rundown.proofs.DriveLaw.{moves_are, leaves_at, drives}
 
 -- a carrier's visits come one after another
-enter_later : (l : LineData) (p : Timetable) (n c k : ℕ) → IsRun l p n → c < n → k ≤ last_stage l → (run_of l p n).enter c 0 ≤ (run_of l p n).enter c k
+enter_later : (l : LineData) (p : Timetable) (n c k : ℕ) → IsRun l p n → c < n → k ≤ last_stage l
+    → (run_of l p n).enter c 0 ≤ (run_of l p n).enter c k
 enter_later l p n c zero run there le = omega arith
 enter_later l p n c (suc k) run there le =
     let s = run_of l p n in
@@ -35,7 +36,8 @@ enter_later l p n c (suc k) run there le =
     let o = layout_of l in
     omega (arith, enter_later l p n c k run there (omega arith), m.apart, lift_leave o s c k plan v, rest_lift o s c k plan v, enter_rest o s c k plan v)
 
-leave_later : (l : LineData) (p : Timetable) (n c k m : ℕ) → IsRun l p n → c < n → k + m ≤ last_stage l → (run_of l p n).leave c k ≤ (run_of l p n).leave c (k + m)
+leave_later : (l : LineData) (p : Timetable) (n c k m : ℕ) → IsRun l p n → c < n → k + m ≤ last_stage l
+    → (run_of l p n).leave c k ≤ (run_of l p n).leave c (k + m)
 leave_later l p n c k zero run there le = let s = run_of l p n in let e : s.leave c k ≡ s.leave c (k + zero) = ap (s.leave c) (omega arith) in omega arith
 leave_later l p n c k (suc m) run there le =
     let s = run_of l p n in
@@ -45,10 +47,18 @@ leave_later l p n c k (suc m) run there le =
     let v : IsVisit s c (j + 1) = (there, omega arith) in
     let e : s.leave c (j + 1) ≡ s.leave c (k + suc m) = ap (s.leave c) (omega arith) in
     let mv = plan.moves c j (there, omega arith) in
-    omega (arith, leave_later l p n c k m run there (omega arith), mv.apart, enter_rest o s c (j + 1) plan v, rest_lift o s c (j + 1) plan v, lift_leave o s c (j + 1) plan v)
+    omega (
+      arith,
+      leave_later l p n c k m run there (omega arith),
+      mv.apart,
+      enter_rest o s c (j + 1) plan v,
+      rest_lift o s c (j + 1) plan v,
+      lift_leave o s c (j + 1) plan v,
+    )
 
 -- nothing is before the first put
-pub from_first : (l : LineData) (p : Timetable) (n c k : ℕ) → IsRun l p n → IsVisit (run_of l p n) c k → logs.first_tick l p ≤ (run_of l p n).enter c k
+pub from_first : (l : LineData) (p : Timetable) (n c k : ℕ) → IsRun l p n → IsVisit (run_of l p n) c k
+    → logs.first_tick l p ≤ (run_of l p n).enter c k
 from_first l p n c k run v =
     let later = enter_later l p n c k run v.0 v.1 in
     ⊎_elim
@@ -65,14 +75,16 @@ at_most_greatest (suc n) c f lt =
     (λ ne. omega (arith, at_most_greatest n c f (omega arith)))
     (cases_eq c n)
 
-pub until_last : (l : LineData) (p : Timetable) (n c k : ℕ) → IsRun l p n → IsVisit (run_of l p n) c k → (run_of l p n).leave c k ≤ logs.last_tick l p n
+pub until_last : (l : LineData) (p : Timetable) (n c k : ℕ) → IsRun l p n → IsVisit (run_of l p n) c k
+    → (run_of l p n).leave c k ≤ logs.last_tick l p n
 until_last l p n c k run v =
     let s = run_of l p n in
     let last = last_stage l in
     let e : s.leave c (k + (last - k)) ≡ s.leave c last = ap (s.leave c) (omega (arith, v.1)) in
     omega (arith, leave_later l p n c k (last - k) run v.0 (omega (arith, v.1)), leaves_at l p n c, at_most_greatest n c (run_off l p) v.0)
 
-pub first_last : (l : LineData) (p : Timetable) (n : ℕ) → IsRun l p n → 1 ≤ n → logs.first_tick l p ≤ logs.last_tick l p n
+pub first_last : (l : LineData) (p : Timetable) (n : ℕ) → IsRun l p n → 1 ≤ n
+    → logs.first_tick l p ≤ logs.last_tick l p n
 first_last l p n run some =
     let s = run_of l p n in
     let o = layout_of l in
@@ -81,7 +93,8 @@ first_last l p n run some =
     omega (arith, from_first l p n 0 0 run v, until_last l p n 0 0 run v, enter_rest o s 0 0 plan v, rest_lift o s 0 0 plan v, lift_leave o s 0 0 plan v)
 
 -- the log of the plan is that of the run
-events_same : (l : LineData) (p : Timetable) (n t : ℕ) → plans.events_at (layout_of l) (run_of l p n) t ≡ logs.events_at l p n t
+events_same : (l : LineData) (p : Timetable) (n t : ℕ)
+    → plans.events_at (layout_of l) (run_of l p n) t ≡ logs.events_at l p n t
 events_same l p n t =
     let s = run_of l p n in
     let last = last_stage l in
@@ -90,14 +103,16 @@ events_same l p n t =
     let m = moves_are l p n c k v.1 in
     (ap (λ (i : ℕ). (i == h) && (s.rest c (k + 1) == t)) m.lifter ∙ ap (λ (u : ℕ). (run_hoist l p c k == h) && (u == t)) m.rest, refl))) in
     let b : plans.off_at s t ≡ logs.off_at l p n t = pick_same n _ _ (λ c. Off c) (λ c. Off c) (λ c lt. (ap (λ (u : ℕ). u == t) (leaves_at l p n c), refl)) in
-    let d : collect l.hoists (plans.begin_at s t) ≡ collect l.hoists (logs.begin_at l p n t) = collect_same l.hoists (plans.begin_at s t) (logs.begin_at l p n t)
+    let d : collect l.hoists (plans.begin_at s t) ≡ collect l.hoists (logs.begin_at l p n t) = collect_same l.hoists
+    (plans.begin_at s t) (logs.begin_at l p n t)
     (λ h lt. pick_move_same n last _ _ (λ c k. Begin c k h) (λ c k. Begin c k h) (λ c k v.
     let m = moves_are l p n c k v.1 in
     (ap (λ (i : ℕ). (i == h) && (s.lift c k == t)) m.lifter ∙ ap (λ (u : ℕ). (run_hoist l p c k == h) && (u == t)) m.lift, refl))) in
     let e : plans.log_at (layout_of l) s t ≡ logs.whats_at l p n t = cc in
     ap (map (at_tick t)) e
 
-log_same : (l : LineData) (p : Timetable) (n first m : ℕ) → plans.log_until (layout_of l) (run_of l p n) first m ≡ logs.events_from l p n first m
+log_same : (l : LineData) (p : Timetable) (n first m : ℕ)
+    → plans.log_until (layout_of l) (run_of l p n) first m ≡ logs.events_from l p n first m
 log_same l p n first zero = events_same l p n first
 log_same l p n first (suc m) = let a = log_same l p n first m in let b = events_same l p n (first + suc m) in cc
 
@@ -110,7 +125,9 @@ runs_through l p n run some =
     (done.0, done.1 ∙ ap (λ (log : List Event). Ok (record { frame = done.0; log = log })) (log_same l p n first (last - first)), done.2, done.3)
 
 -- an answer of a run that is reached is done
-done_is : (l : LineData) (p : Timetable) (n : ℕ) (r : Result Reached Stop) (f : Scene) (played : Played) → r ≡ Ok (record { frame = f; log = logs.run_log l p n }) → IsEmpty f → f.next ≡ n → IsPlayed r played → IsDoneRun l p n played
+done_is : (l : LineData) (p : Timetable) (n : ℕ) (r : Result Reached Stop) (f : Scene) (played : Played)
+    → r ≡ Ok (record { frame = f; log = logs.run_log l p n }) → IsEmpty f → f.next ≡ n → IsPlayed r played
+    → IsDoneRun l p n played
 done_is l p n r f (Done log end) is empty next so =
     let same : record { frame = scene_of end; log = log.items } ≡ record { frame = f; log = logs.run_log l p n } = let a = sym so ∙ is in cc in
     let frame : scene_of end ≡ f = ap (λ (x : Reached). x.frame) same in

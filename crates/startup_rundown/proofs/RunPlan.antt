@@ -50,28 +50,34 @@ pub other_is : (last final : ℕ) (f : ℕ → ℕ) (k : ℕ) → k < last → t
 other_is last final f k lt = cond-false (k == last) _ _ (ne_eqb k last (λ e. omega arith))
 
 -- the ticks of a visit's hold
-begin_next : (l : LineData) (p : Timetable) (c k : ℕ) → hold_begin l p c (k + 1) ≡ p.start c k + duration (motion l p c k) - (stage l (k + 1)).lower
+begin_next : (l : LineData) (p : Timetable) (c k : ℕ)
+    → hold_begin l p c (k + 1) ≡ p.start c k + duration (motion l p c k) - (stage l (k + 1)).lower
 begin_next l p c k =
     let e : k + 1 - 1 ≡ k = omega arith in
-    ap (λ (b : Bool). if b then p.put c else p.start c (k + 1 - 1) + duration (motion l p c (k + 1 - 1)) - (stage l (k + 1)).lower) (ne_eqb (k + 1) 0 (λ z. omega arith))
+    ap (λ (b : Bool). if b then p.put c else p.start c (k + 1 - 1) + duration
+    (motion l p c (k + 1 - 1)) - (stage l (k + 1)).lower) (ne_eqb (k + 1) 0 (λ z. omega arith))
     ∙ ap (λ (j : ℕ). p.start c j + duration (motion l p c j) - (stage l (k + 1)).lower) e
 
-end_other : (l : LineData) (p : Timetable) (c k : ℕ) → k < last_stage l → hold_end l p c k ≡ p.start c k + (stage l k).lift
+end_other : (l : LineData) (p : Timetable) (c k : ℕ) → k < last_stage l
+    → hold_end l p c k ≡ p.start c k + (stage l k).lift
 end_other l p c k lt = ap (λ (b : Bool). if b then p.off c else p.start c k + (stage l k).lift) (ne_eqb k (last_stage l) (λ e. omega arith))
 
 pub end_last : (l : LineData) (p : Timetable) (c : ℕ) → hold_end l p c (last_stage l) ≡ p.off c
 end_last l p c = ap (λ (b : Bool). if b then p.off c else p.start c (last_stage l) + (stage l (last_stage l)).lift) (eq-eqb (last_stage l) (last_stage l) refl)
 
 -- the machine's motion is that of the timetable
-ticks_are : (l : LineData) (p : Timetable) (c k : ℕ) → move_ticks (layout_of l) k (run_tank l p c k) (run_tank l p c (k + 1)) ≡ duration (run_motion l p c k)
+ticks_are : (l : LineData) (p : Timetable) (c k : ℕ)
+    → move_ticks (layout_of l) k (run_tank l p c k) (run_tank l p c (k + 1)) ≡ duration (run_motion l p c k)
 unfolding move_ticks
 ticks_are l p c k = refl
 
-places_are : (l : LineData) (p : Timetable) (c k u : ℕ) → move_place (layout_of l) k (run_tank l p c k) (run_tank l p c (k + 1)) u ≡ place (run_motion l p c k) u
+places_are : (l : LineData) (p : Timetable) (c k u : ℕ)
+    → move_place (layout_of l) k (run_tank l p c k) (run_tank l p c (k + 1)) u ≡ place (run_motion l p c k) u
 unfolding move_place
 places_are l p c k u = refl
 
-room : (l : LineData) (p : Timetable) (c k : ℕ) → (stage l k).lift + (stage l (k + 1)).lower ≤ duration (run_motion l p c k)
+room : (l : LineData) (p : Timetable) (c k : ℕ)
+    → (stage l k).lift + (stage l (k + 1)).lower ≤ duration (run_motion l p c k)
 room l p c k = omega arith
 
 -- a tank of a stage serves it
@@ -95,14 +101,17 @@ run_is l p n line legal = record {
   base = λ c. mod_below c l.degree (omega (arith, line.limits.degree.0));
 }
 
-serves : (l : LineData) (p : Timetable) (n c k : ℕ) → IsRun l p n → k ≤ last_stage l → (layout_of l).serves (run_tank l p c k) k ≡ true
+serves : (l : LineData) (p : Timetable) (n c k : ℕ) → IsRun l p n → k ≤ last_stage l
+    → (layout_of l).serves (run_tank l p c k) k ≡ true
 serves l p n c k run le = serving (run_tank l p c k) (stage l k).tanks (run.legal.routed (copied l c) k (run.base c, omega (arith, run.line.limits.stages.0)))
 
-moving : (l : LineData) (p : Timetable) (n c k : ℕ) → IsRun l p n → IsMove (run_of l p n) c k → IsMoving (layout_of l) (run_of l p n) c k
+moving : (l : LineData) (p : Timetable) (n c k : ℕ) → IsRun l p n → IsMove (run_of l p n) c k
+    → IsMoving (layout_of l) (run_of l p n) c k
 moving l p n c k run v =
     let there = run.legal.carried.hoist (copied l c) k (run.base c, omega (arith, v.1)) in
     let lifter : to_last (last_stage l) l.hoists (run_hoist l p c) k ≡ run_hoist l p c k = other_is (last_stage l) l.hoists (run_hoist l p c) k v.1 in
-    let lift : to_last (last_stage l) (run_off l p c) (run_start l p c) k ≡ run_start l p c k = other_is (last_stage l) (run_off l p c) (run_start l p c) k v.1 in
+    let lift : to_last (last_stage l) (run_off l p c) (run_start l p c) k ≡ run_start l p c k = other_is (last_stage l)
+    (run_off l p c) (run_start l p c) k v.1 in
     let rest : from_before (run_put l p c) (run_end l p c) (k + 1) ≡ run_end l p c k = next_is (run_put l p c) (run_end l p c) k in
     let leave = end_other l p (copied l c) k v.1 in
     let enter = begin_next l p (copied l c) k in
@@ -139,7 +148,8 @@ by_stage last k P le cases =
     (cases_eq k last))
     (cases_eq k 0)
 
-rests : (l : LineData) (p : Timetable) (n c k : ℕ) → IsRun l p n → c < n → k ≤ last_stage l → (run_of l p n).rest c k + least_age l k ≤ (run_of l p n).lift c k
+rests : (l : LineData) (p : Timetable) (n c k : ℕ) → IsRun l p n → c < n → k ≤ last_stage l
+    → (run_of l p n).rest c k + least_age l k ≤ (run_of l p n).lift c k
 rests l p n c k run there le =
     let s = run_of l p n in
     let last = last_stage l in
@@ -155,12 +165,15 @@ rests l p n c k run there le =
           let lift : s.lift c last ≡ run_off l p c = last_is last (run_off l p c) (run_start l p c) last refl in
           let step : last_step l ≡ j = omega arith in
           let end : run_end l p c (last_step l) ≡ run_end l p c j = ap (run_end l p c) step in
-          let age : least_age l last ≡ l.unload = cond-false (last == 0) _ _ (ne_eqb last 0 (λ z. omega arith)) ∙ cond-true (last == last) _ _ (eq-eqb last last refl) in
+          let age : least_age l last ≡ l.unload = cond-false (last == 0) _ _ (ne_eqb last 0 (λ z. omega arith))
+          ∙ cond-true (last == last) _ _ (eq-eqb last last refl) in
           omega (arith, run.windows.unload c there);
       between = λ j lt.
           let rest : s.rest c (j + 1) ≡ run_end l p c j = next_is (run_put l p c) (run_end l p c) j in
           let lift : s.lift c (j + 1) ≡ run_start l p c (j + 1) = other_is last (run_off l p c) (run_start l p c) (j + 1) lt in
-          let age : least_age l (j + 1) ≡ (stage l (j + 1)).min = cond-false (j + 1 == 0) _ _ (ne_eqb (j + 1) 0 (λ z. omega arith)) ∙ cond-false (j + 1 == last) _ _ (ne_eqb (j + 1) last (λ z. omega arith)) in
+          let age : least_age l (j + 1) ≡ (stage l (j + 1)).min = cond-false (j + 1 == 0) _ _
+          (ne_eqb (j + 1) 0 (λ z. omega arith)) ∙ cond-false (j + 1 == last) _ _
+          (ne_eqb (j + 1) last (λ z. omega arith)) in
           omega (arith, run.windows.least c j there (omega arith));
     })
 
@@ -172,7 +185,8 @@ bound_same : (o : Option ℕ) (a b x y : ℕ) → a ≡ x → b ≡ y → IfSome
 bound_same None a b x y e f h = tt
 bound_same (Some m) a b x y e f h = omega (arith, h)
 
-in_time : (l : LineData) (p : Timetable) (n c k : ℕ) → IsRun l p n → c < n → k ≤ last_stage l → IfSome (stage l k).max (λ m. (run_of l p n).lift c k ≤ (run_of l p n).rest c k + m)
+in_time : (l : LineData) (p : Timetable) (n c k : ℕ) → IsRun l p n → c < n → k ≤ last_stage l
+    → IfSome (stage l k).max (λ m. (run_of l p n).lift c k ≤ (run_of l p n).rest c k + m)
 in_time l p n c k run there le =
     let s = run_of l p n in
     let last = last_stage l in
@@ -243,7 +257,12 @@ run_plan l p n run =
       places = run.layout.places;
       tanks = λ c k v. run.layout.there (run_tank l p c k) k (serves l p n c k run v.1);
       moves = λ c k v. moving l p n c k run v;
-      puts = λ c lt. record { lowerer = refl; setter = refl; at_once = refl; tank = run.layout.load_only (run_tank l p c 0) (serves l p n c 0 run (omega arith)) };
+      puts = λ c lt. record {
+        lowerer = refl;
+        setter = refl;
+        at_once = refl;
+        tank = run.layout.load_only (run_tank l p c 0) (serves l p n c 0 run (omega arith));
+      };
       offs = λ c lt. record {
         lifter = last_is last l.hoists (run_hoist l p c) last refl;
         at_once = last_is last (run_off l p c) (run_start l p c) last refl ∙ sym (ap (in_run l p c) (end_last l p (copied l c)));
@@ -268,13 +287,15 @@ run_plan l p n run =
       numbered = λ c d lt there. puts_rise l p n c d run lt;
     }
 
-pub run_tracked : (l : LineData) (p : Timetable) (n : ℕ) → IsRun l p n → IsTracked (layout_of l) (run_of l p n) (position p)
+pub run_tracked : (l : LineData) (p : Timetable) (n : ℕ) → IsRun l p n
+    → IsTracked (layout_of l) (run_of l p n) (position p)
 run_tracked l p n run = record {
   within = λ h t lt. (run.legal.track.spaced t).within h lt;
   gap = λ h t lt. (run.legal.track.spaced t).apart h lt;
   moves = λ c k u v le.
       let a : to_last (last_stage l) l.hoists (run_hoist l p c) k ≡ run_hoist l p c k = other_is (last_stage l) l.hoists (run_hoist l p c) k v.1 in
-      let e : to_last (last_stage l) (run_off l p c) (run_start l p c) k ≡ run_start l p c k = other_is (last_stage l) (run_off l p c) (run_start l p c) k v.1 in
+      let e : to_last (last_stage l) (run_off l p c) (run_start l p c) k ≡ run_start l p c k = other_is (last_stage l)
+      (run_off l p c) (run_start l p c) k v.1 in
       ap (λ (h : ℕ). position p h ((run_of l p n).lift c k + u)) a ∙ ap (λ (t : ℕ). position p (run_hoist l p c k) (t + u)) e
       ∙ run.windows.along c k u v.0 (omega (arith, v.1)) (subst (λ (d : ℕ). u ≤ d) (ticks_are l p c k) le) ∙ sym (places_are l p c k u);
 }

@@ -50,7 +50,8 @@ has_copy r c there =
     lt-ltb (c % r.line.degree + c / r.line.degree * r.line.degree) r.carriers (omega arith)
 
 -- a tick of a carrier comes where it comes for a copy of it
-due_copy : (r : RunnerData) (c at t : ℕ) → c < r.line.degree → is_due r c at t ≡ true → (e : ℕ) × (e < r.carriers) × (e % r.line.degree ≡ c) × (in_run r.line (timetable_of r.timetable) e at ≡ t)
+due_copy : (r : RunnerData) (c at t : ℕ) → c < r.line.degree → is_due r c at t ≡ true
+    → (e : ℕ) × (e < r.carriers) × (e % r.line.degree ≡ c) × (in_run r.line (timetable_of r.timetable) e at ≡ t)
 due_copy r c at t lt due =
     let period = r.timetable.period in
     let q = (t - at) / period in
@@ -66,7 +67,8 @@ due_copy r c at t lt due =
     (copy.carrier, copy.there, copy.base, omega arith))
     (cases_lt t at)
 
-copy_due : (r : RunnerData) (c at t : ℕ) → 1 ≤ r.timetable.period → c < r.carriers → in_run r.line (timetable_of r.timetable) c at ≡ t → is_due r (c % r.line.degree) at t ≡ true
+copy_due : (r : RunnerData) (c at t : ℕ) → 1 ≤ r.timetable.period → c < r.carriers
+    → in_run r.line (timetable_of r.timetable) c at ≡ t → is_due r (c % r.line.degree) at t ≡ true
 copy_due r c at t some there here =
     let period = r.timetable.period in
     let z = c / r.line.degree in
@@ -79,7 +81,8 @@ copy_due r c at t some there here =
 
 -- and so for what lasts from the tick on
 way_copy : (r : RunnerData) (c at long t : ℕ) → c < r.line.degree → is_under_way r c at long t ≡ true
-    → (e : ℕ) × (e < r.carriers) × (e % r.line.degree ≡ c) × (in_run r.line (timetable_of r.timetable) e at < t) × (t - 1 < in_run r.line (timetable_of r.timetable) e at + long)
+    → (e : ℕ) × (e < r.carriers) × (e % r.line.degree ≡ c) × (in_run r.line (timetable_of r.timetable) e at < t)
+    × (t - 1 < in_run r.line (timetable_of r.timetable) e at + long)
 way_copy r c at long t lt way =
     let period = r.timetable.period in
     let since = t - 1 - at in
@@ -96,7 +99,8 @@ way_copy r c at long t lt way =
     (λ le. absurd (let g : is_under_way r c at long t ≡ false = cond-false (nat_lt at t) _ _ (le-ltb at t le) in cc))
     (cases_lt at t)
 
-copy_way : (r : RunnerData) (c at long t : ℕ) → long ≤ r.timetable.period → c < r.carriers → in_run r.line (timetable_of r.timetable) c at < t → t - 1 < in_run r.line (timetable_of r.timetable) c at + long
+copy_way : (r : RunnerData) (c at long t : ℕ) → long ≤ r.timetable.period → c < r.carriers
+    → in_run r.line (timetable_of r.timetable) c at < t → t - 1 < in_run r.line (timetable_of r.timetable) c at + long
     → is_under_way r (c % r.line.degree) at long t ≡ true
 copy_way r c at long t short there from before =
     let period = r.timetable.period in
@@ -110,7 +114,8 @@ copy_way r c at long t short there from before =
     ∙ and_from (nat_lt ((t - 1 - at) % period) long) _ (lt-ltb ((t - 1 - at) % period) long (omega arith)) has
 
 -- a carry is no longer than a period, since its hoist carries the next copy then
-fits_period : (l : LineData) (p : Timetable) (c k : ℕ) → IsLegal l p → IsMove l c k → duration (motion l p c k) ≤ p.period
+fits_period : (l : LineData) (p : Timetable) (c k : ℕ) → IsLegal l p → IsMove l c k
+    → duration (motion l p c k) ≤ p.period
 fits_period l p c k legal move =
     ⊎_elim
     (λ longer.
@@ -131,7 +136,8 @@ is_run : (r : RunnerData) → IsRunner r → IsRun r.line (timetable_of r.timeta
 is_run r is = run_is r.line (timetable_of r.timetable) r.carriers is.line is.legal
 
 -- a move that starts at the tick, by a copy
-starts_copy : (r : RunnerData) (t h e k : ℕ) → IsRunner r → e < r.carriers → starts_at r.line (timetable_of r.timetable) t h e k ≡ true → begins_at r t h (e % r.line.degree) k ≡ true
+starts_copy : (r : RunnerData) (t h e k : ℕ) → IsRunner r → e < r.carriers
+    → starts_at r.line (timetable_of r.timetable) t h e k ≡ true → begins_at r t h (e % r.line.degree) k ≡ true
 starts_copy r t h e k is there hit =
     let l = r.line in
     let p = timetable_of r.timetable in
@@ -150,7 +156,8 @@ copy_starts r t h c k lt hit =
     let start : run_start l p copy.0 k ≡ t = ap (λ (d : ℕ). in_run l p copy.0 (p.start d k)) copy.2 ∙ copy.3 in
     (copy.0, copy.1, copy.2, and_from (run_hoist l p copy.0 k == h) (run_start l p copy.0 k == t) hoist (eq-eqb (run_start l p copy.0 k) t start))
 
-pub begin_is : (r : RunnerData) (t h : ℕ) (o : Option ℕ) → IsRunner r → begin_of r t h ≡ o → o ≡ (order_into r.line (timetable_of r.timetable) r.carriers t).begin h
+pub begin_is : (r : RunnerData) (t h : ℕ) (o : Option ℕ) → IsRunner r → begin_of r t h ≡ o
+    → o ≡ (order_into r.line (timetable_of r.timetable) r.carriers t).begin h
 begin_is r t h None is found =
     let l = r.line in
     let p = timetable_of r.timetable in
@@ -171,7 +178,8 @@ begin_is r t h (Some v) is found =
     (λ d j w other. one_start l p r.carriers t h e k d j run (copy.1, m.2.1) w copy.3 other)
     ∙ ap (λ (i : ℕ). Some i) tank)
 
-pub loaded_is : (r : RunnerData) (t h : ℕ) → IsRunner r → is_loaded r t h ≡ driving.is_loaded r.line (timetable_of r.timetable) r.carriers t h
+pub loaded_is : (r : RunnerData) (t h : ℕ) → IsRunner r
+    → is_loaded r t h ≡ driving.is_loaded r.line (timetable_of r.timetable) r.carriers t h
 loaded_is r t h is =
     let l = r.line in
     let p = timetable_of r.timetable in
@@ -189,9 +197,12 @@ loaded_is r t h is =
     let e = copy.0 in
     let hoist : (run_hoist l p e k == h) ≡ true = ap (λ (d : ℕ). p.hoist d k == h) copy.2 ∙ parts.0 in
     let start : run_start l p e k ≡ in_run l p e (p.start c k) = ap (λ (d : ℕ). in_run l p e (p.start d k)) copy.2 in
-    let end : run_end l p e k ≡ in_run l p e (p.start c k) + duration (motion l p c k) = ap (λ (d : ℕ). in_run l p e (p.start d k) + duration (motion l p d k)) copy.2 in
+    let end : run_end l p e k ≡ in_run l p e (p.start c k) + duration (motion l p c k) = ap
+    (λ (d : ℕ). in_run l p e (p.start d k) + duration (motion l p d k)) copy.2 in
     some_if (pick_move n last (under l p t h) (λ d j. d)) (move_not n last (under l p t h) (λ d j. d) e k (copy.1, m.2.1)
-    (and_from (run_hoist l p e k == h) _ hoist (and_from (nat_lt (run_start l p e k) t) (nat_lt (t - 1) (run_end l p e k)) (lt-ltb (run_start l p e k) t (omega (arith, copy.3))) (lt-ltb (t - 1) (run_end l p e k) (omega (arith, copy.4)))))))
+    (and_from (run_hoist l p e k == h) _ hoist (and_from (nat_lt (run_start l p e k) t)
+    (nat_lt (t - 1) (run_end l p e k)) (lt-ltb (run_start l p e k) t (omega (arith, copy.3)))
+    (lt-ltb (t - 1) (run_end l p e k) (omega (arith, copy.4)))))))
     (λ yes.
     let v = some_of (pick_move n last (under l p t h) (λ d j. d)) yes in
     let m = pick_move_found n last (under l p t h) (λ d j. d) v.0 v.1 in
@@ -201,13 +212,16 @@ loaded_is r t h is =
     let parts = and_parts (run_hoist l p e k == h) (nat_lt (run_start l p e k) t && nat_lt (t - 1) (run_end l p e k)) m.3 in
     let both = and_parts (nat_lt (run_start l p e k) t) (nat_lt (t - 1) (run_end l p e k)) parts.1 in
     let move : IsMove l c k = (run.base e, omega (arith, m.2.1)) in
-    let way = copy_way r e (p.start c k) (duration (motion l p c k)) t (fits_period l p c k is.legal move) m.2.0 (ltb-true (run_start l p e k) t both.0) (ltb-true (t - 1) (run_end l p e k) both.1) in
+    let way = copy_way r e (p.start c k) (duration (motion l p c k)) t (fits_period l p c k is.legal move) m.2.0
+    (ltb-true (run_start l p e k) t both.0) (ltb-true (t - 1) (run_end l p e k) both.1) in
     some_if (pick_move l.degree last (carries_into r t h) (λ d j. d)) (move_not l.degree last (carries_into r t h) (λ d j. d) c k (run.base e, m.2.1)
     (and_from (run_hoist l p e k == h) _ parts.0 way)))
 
 -- an off or a put, by a copy
 once_is : (r : RunnerData) (t : ℕ) (at : ℕ → ℕ) → IsRunner r
-    → is_some (pick r.line.degree (λ c. is_due r c (at c) t) (λ c. c)) ≡ is_some (pick r.carriers (λ c. in_run r.line (timetable_of r.timetable) c (at (c % r.line.degree)) == t) (λ c. c))
+    → is_some (pick r.line.degree (λ c. is_due r c (at c) t) (λ c. c))
+    ≡ is_some (pick r.carriers (λ c. in_run r.line (timetable_of r.timetable) c (at (c % r.line.degree)) == t)
+    (λ c. c))
 once_is r t at is =
     let l = r.line in
     let p = timetable_of r.timetable in
@@ -229,13 +243,16 @@ once_is r t at is =
     let due = copy_due r e (at (e % l.degree)) t is.timetable.period.0 m.1 (eqb-true (in_run l p e (at (e % l.degree))) t m.2) in
     some_if (pick l.degree base (λ c. c)) (hit_not l.degree base (λ c. c) (e % l.degree) (run.base e) due))
 
-pub off_is : (r : RunnerData) (t : ℕ) → IsRunner r → takes_off r t ≡ (order_into r.line (timetable_of r.timetable) r.carriers t).off
+pub off_is : (r : RunnerData) (t : ℕ) → IsRunner r
+    → takes_off r t ≡ (order_into r.line (timetable_of r.timetable) r.carriers t).off
 off_is r t is = once_is r t (timetable_of r.timetable).off is
 
-pub put_is : (r : RunnerData) (t : ℕ) → IsRunner r → puts_on r t ≡ (order_into r.line (timetable_of r.timetable) r.carriers t).put
+pub put_is : (r : RunnerData) (t : ℕ) → IsRunner r
+    → puts_on r t ≡ (order_into r.line (timetable_of r.timetable) r.carriers t).put
 put_is r t is = once_is r t (timetable_of r.timetable).put is
 
-pub go_is : (r : RunnerData) (t h : ℕ) → IsRunner r → go_of r t h ≡ (order_into r.line (timetable_of r.timetable) r.carriers t).go h
+pub go_is : (r : RunnerData) (t h : ℕ) → IsRunner r
+    → go_of r t h ≡ (order_into r.line (timetable_of r.timetable) r.carriers t).go h
 go_is r t h is =
     let p = timetable_of r.timetable in
     ap (λ (b : Bool). cond ((t == first_tick r) || b) Stay (toward (position p h (t - 1)) (position p h t))) (loaded_is r t h is)
@@ -251,7 +268,8 @@ stay_same : (b : Bool) → cond b Stay Stay ≡ Stay
 stay_same true = refl
 stay_same false = refl
 
-no_go : (r : RunnerData) (t h : ℕ) → IsRunner r → r.line.hoists ≤ h → (order_into r.line (timetable_of r.timetable) r.carriers t).go h ≡ Stay
+no_go : (r : RunnerData) (t h : ℕ) → IsRunner r → r.line.hoists ≤ h
+    → (order_into r.line (timetable_of r.timetable) r.carriers t).go h ≡ Stay
 no_go r t h is past =
     let l = r.line in
     let p = timetable_of r.timetable in
@@ -260,7 +278,8 @@ no_go r t h is past =
     ∙ ap (λ (x : ℕ). cond b Stay (toward 0 x)) (no_path r t h is past)
     ∙ stay_same b
 
-no_begin : (r : RunnerData) (t h : ℕ) → IsRunner r → r.line.hoists ≤ h → (order_into r.line (timetable_of r.timetable) r.carriers t).begin h ≡ None
+no_begin : (r : RunnerData) (t h : ℕ) → IsRunner r → r.line.hoists ≤ h
+    → (order_into r.line (timetable_of r.timetable) r.carriers t).begin h ≡ None
 no_begin r t h is past =
     let l = r.line in
     let p = timetable_of r.timetable in
@@ -270,14 +289,16 @@ no_begin r t h is past =
     let there = is.legal.carried.hoist (e % l.degree) k (run.base e, omega (arith, v.1)) in
     omega arith)
 
-command_same : (a b : Command) → ((h : ℕ) → a.go h ≡ b.go h) → ((h : ℕ) → a.begin h ≡ b.begin h) → a.off ≡ b.off → a.put ≡ b.put → a ≡ b
+command_same : (a b : Command) → ((h : ℕ) → a.go h ≡ b.go h) → ((h : ℕ) → a.begin h ≡ b.begin h) → a.off ≡ b.off
+    → a.put ≡ b.put → a ≡ b
 command_same a b go begin off put = λ p. record { go = λ h. go h p; begin = λ h. begin h p; off = off p; put = put p }
 
 -- an order that has for each hoist what the runner finds, and its off and its put, is that of the run
 pub order_is : (r : RunnerData) (t : ℕ) (o : Order) → IsRunner r → IsSizedOrder r.line.hoists o
     → ((h : ℕ) → h < r.line.hoists → get_or o.go.items h Stay ≡ go_of r t h)
     → ((h : ℕ) → h < r.line.hoists → get_or o.begin.items h None ≡ begin_of r t h)
-    → o.off ≡ takes_off r t → o.put ≡ puts_on r t → command_of o ≡ order_into r.line (timetable_of r.timetable) r.carriers t
+    → o.off ≡ takes_off r t → o.put ≡ puts_on r t
+    → command_of o ≡ order_into r.line (timetable_of r.timetable) r.carriers t
 order_is r t o is sized go begin off put =
     let c = order_into r.line (timetable_of r.timetable) r.carriers t in
     command_same (command_of o) c
@@ -297,7 +318,8 @@ pub kept : (x y : RunnerData) → x ≡ y → IsRunner x → IsRunner y
 kept x y same is = subst IsRunner same is
 
 -- a list that is as it should be up to i, with what it should have at i
-pub written : {A : Type 0} (f : ℕ → A) (xs : List A) (i : ℕ) (v d : A) → i < length xs → v ≡ f i → ((k : ℕ) → k < i → get_or xs k d ≡ f k) → (k : ℕ) → k < i + 1 → get_or (set xs i v) k d ≡ f k
+pub written : {A : Type 0} (f : ℕ → A) (xs : List A) (i : ℕ) (v d : A) → i < length xs → v ≡ f i
+    → ((k : ℕ) → k < i → get_or xs k d ≡ f k) → (k : ℕ) → k < i + 1 → get_or (set xs i v) k d ≡ f k
 written {A = A} f xs i v d lt is before k below =
     ⊎_elim
     (λ here. ap (λ (j : ℕ). get_or (set xs i v) j d) here ∙ get_or-set_same xs i v d lt ∙ is ∙ sym (ap f here))
@@ -306,7 +328,9 @@ written {A = A} f xs i v d lt is before k below =
 
 -- what a machine answers of a runner is what it answers of the run
 pub driven_done : (l : LineData) (d : TimetableData) (n : ℕ) (r : RunnerData) (played : Played) → PlaysThrough l (timetable_of d) n → r ≡ record { line = l; timetable = d; carriers = n }
-    → IsPlayed (run (layout_of l) (first_place r.line (timetable_of r.timetable)) (order_into r.line (timetable_of r.timetable) r.carriers) (first_tick r) (last_tick r)) played
+    → IsPlayed (run (layout_of l) (first_place r.line (timetable_of r.timetable))
+    (order_into r.line (timetable_of r.timetable) r.carriers) (first_tick r) (last_tick r)) played
     → IsDoneRun l (timetable_of d) n played
 driven_done l d n r played done same so =
-    done played (subst (λ (q : RunnerData). IsPlayed (run (layout_of l) (first_place q.line (timetable_of q.timetable)) (order_into q.line (timetable_of q.timetable) q.carriers) (first_tick q) (last_tick q)) played) same so)
+    done played (subst (λ (q : RunnerData). IsPlayed (run (layout_of l) (first_place q.line (timetable_of q.timetable))
+    (order_into q.line (timetable_of q.timetable) q.carriers) (first_tick q) (last_tick q)) played) same so)

@@ -42,7 +42,8 @@ carry_of s t c k = record { carrier = c; step = k; elapsed = t - s.lift c k; fro
 -- tanks hold the visits of which P says so, and no other
 pub record ShowsHolds (s : Plan) (P : ℕ → ℕ → Rest → Type 0) (hold : ℕ → Option Hold) : Type 0 where
   pub held : (c k : ℕ) (r : Rest) → IsVisit s c k → P c k r → hold (s.tank c k) ≡ Some (hold_of c k r)
-  pub holds : (i : ℕ) (x : Hold) → hold i ≡ Some x → IsVisit s x.carrier x.stage × (s.tank x.carrier x.stage ≡ i) × P x.carrier x.stage x.rest
+  pub holds : (i : ℕ) (x : Hold) → hold i ≡ Some x
+      → IsVisit s x.carrier x.stage × (s.tank x.carrier x.stage ≡ i) × P x.carrier x.stage x.rest
 
 -- hoists carry by the moves of which P says so, and by no other
 pub record ShowsCarries (s : Plan) (t : ℕ) (P : ℕ → ℕ → Type 0) (carry : ℕ → Option Carry) : Type 0 where

@@ -20,7 +20,8 @@ use Rattle.startup_rundown.proofs.Passing.{whole}
 use Rattle.startup_rundown.proofs.LastPoints.{late_none, near_none}
 
 -- what one hoist after another keeps
-pub each_holds : (P : ℕ → Scene → Type 0) (act : ℕ → Scene → Scene) (n : ℕ) (f : Scene) → P 0 f → ((h : ℕ) (g : Scene) → h < n → P h g → P (h + 1) (act h g)) → P n (each act n f)
+pub each_holds : (P : ℕ → Scene → Type 0) (act : ℕ → Scene → Scene) (n : ℕ) (f : Scene) → P 0 f
+    → ((h : ℕ) (g : Scene) → h < n → P h g → P (h + 1) (act h g)) → P n (each act n f)
 each_holds P act zero f start keeps = start
 each_holds P act (suc n) f start keeps =
     let e : n + 1 ≡ suc n = omega arith in
@@ -38,7 +39,11 @@ set_down_kept : (l : Layout) (h : ℕ) (o : Option Carry) (f : Scene) → (set_d
 set_down_kept l h None f = refl
 set_down_kept l h (Some c) f = branch (c.elapsed == length_of l c)
   where
-    branch : (b : Bool) → (cond b (record f { carry = with f.carry h None; hold = with f.hold c.to (Some (record { carrier = c.carrier; stage = c.step + 1; rest = Resting 0 })) }) f).at ≡ f.at
+    branch : (b : Bool) → (cond b (record f {
+      carry = with f.carry h None;
+      hold = with f.hold c.to (Some (record { carrier = c.carrier; stage = c.step + 1; rest = Resting 0 }));
+    }) f).at
+        ≡ f.at
     branch true = refl
     branch false = refl
 
@@ -62,7 +67,8 @@ begin_kept : (l : Layout) (h : ℕ) (o : Option ℕ) (f : Scene) → (begin_by l
 begin_kept l h None f = refl
 begin_kept l h (Some to) f = carrying_kept h (begun l h to f) f
 
-each_kept : (act : ℕ → Scene → Scene) (n : ℕ) (f : Scene) → ((h : ℕ) (g : Scene) → (act h g).at ≡ g.at) → (each act n f).at ≡ f.at
+each_kept : (act : ℕ → Scene → Scene) (n : ℕ) (f : Scene) → ((h : ℕ) (g : Scene) → (act h g).at ≡ g.at)
+    → (each act n f).at ≡ f.at
 each_kept act zero f keeps = refl
 each_kept act (suc n) f keeps = keeps n (each act n f) ∙ each_kept act n f keeps
 
@@ -84,14 +90,17 @@ pub record Passed (l : Layout) (s : Plan) (pos : ℕ → ℕ → ℕ) (t : ℕ) 
   pub shows : Shows s (clock t 0 0 0 0) (after_tick l o f)
 
 -- the frame after points 4 and 5
-pub free_shows : (l : Layout) (s : Plan) (pos : ℕ → ℕ → ℕ) (t : ℕ) (o : Command) (f : Scene) → IsPlan l s → Passed l s pos t o f → Shows s (clock t l.hoists l.hoists 0 0) (after_free l o f)
+pub free_shows : (l : Layout) (s : Plan) (pos : ℕ → ℕ → ℕ) (t : ℕ) (o : Command) (f : Scene) → IsPlan l s
+    → Passed l s pos t o f → Shows s (clock t l.hoists l.hoists 0 0) (after_free l o f)
 free_shows l s pos t o f plan passed =
     let f3 = after_tick l o f in
     let f4 = each (set_down l) l.hoists f3 in
-    let s4 : Shows s (clock t l.hoists 0 0 0) f4 = each_holds (λ h g. Shows s (clock t h 0 0 0) g) (set_down l) l.hoists f3 passed.shows (λ h g lt p. set_down_shows l s t h g plan lt p) in
+    let s4 : Shows s (clock t l.hoists 0 0 0) f4 = each_holds (λ h g. Shows s (clock t h 0 0 0) g)
+    (set_down l) l.hoists f3 passed.shows (λ h g lt p. set_down_shows l s t h g plan lt p) in
     each_holds (λ h g. Shows s (clock t l.hoists h 0 0) g) (lift_out l) l.hoists f4 s4 (λ h g lt p. lift_out_shows l s t h g plan lt p)
 
-pub events : (l : Layout) (s : Plan) (pos : ℕ → ℕ → ℕ) (t : ℕ) (o : Command) (f : Scene) → IsPlan l s → IsTracked l s pos → Orders s t o → Passed l s pos t o f
+pub events : (l : Layout) (s : Plan) (pos : ℕ → ℕ → ℕ) (t : ℕ) (o : Command) (f : Scene) → IsPlan l s
+    → IsTracked l s pos → Orders s t o → Passed l s pos t o f
     → (step l o f ≡ Ok (after_begin l o f)) × IsAt l s pos t (after_begin l o f)
 events l s pos t o f plan track orders passed =
     let f3 = after_tick l o f in
@@ -127,8 +136,11 @@ events l s pos t o f plan track orders passed =
           ∙ unless_none _ _ s6.0
           ∙ unless_none _ _ s7.0
           ∙ unless_none _ _ (first_none l.hoists _ (λ h lt. (lower_in_shows l s t h (each (lower_in l) h f7) plan lt (low h (omega arith))).0))
-          ∙ unless_none _ _ (first_none l.hoists _ (λ h lt. let b = begin h (omega arith) in (begin_shows l s t h o (each (begin_move l o) h f8) plan orders lt (stands (each (begin_move l o) h f8) b.1) b.0).0))
+          ∙ unless_none _ _ (first_none l.hoists _ (λ h lt. let b = begin h
+          (omega arith) in (begin_shows l s t h o (each (begin_move l o) h f8) plan orders lt
+          (stands (each (begin_move l o) h f8) b.1) b.0).0))
           ∙ unless_none _ _ (first_none l.tanks _ (λ i lt. late_none l s t l.hoists i f8 plan s8))
-          ∙ unless_none _ _ (first_none (l.hoists - 1) _ (λ h lt. near_none l s pos t h f9 track (omega arith) (at f9 done.1 h (omega arith)) (at f9 done.1 (h + 1) (omega arith)))),
+          ∙ unless_none _ _ (first_none (l.hoists - 1) _ (λ h lt. near_none l s pos t h f9 track (omega arith)
+          (at f9 done.1 h (omega arith)) (at f9 done.1 (h + 1) (omega arith)))),
       record { shows = done.0; at = at f9 done.1 },
     )

@@ -14,7 +14,8 @@ clock t set free low begin = record { tick = t; set = set; free = free; low = lo
 pub lift_leave : (l : Layout) (s : Plan) (c k : ℕ) → IsPlan l s → IsVisit s c k → s.lift c k ≤ s.leave c k
 lift_leave l s c k plan v =
     ⊎_elim
-    (λ e. let a : s.lift c k ≡ s.lift c s.last = ap (s.lift c) e in let b : s.leave c k ≡ s.leave c s.last = ap (s.leave c) e in omega (arith, (plan.offs c v.0).at_once))
+    (λ e. let a : s.lift c k ≡ s.lift c s.last = ap (s.lift c) e in let b : s.leave c k
+    ≡ s.leave c s.last = ap (s.leave c) e in omega (arith, (plan.offs c v.0).at_once))
     (λ ne. omega (arith, (plan.moves c k (v.0, omega arith)).lift_takes))
     (cases_eq k s.last)
 
@@ -25,11 +26,21 @@ pub carry_order : (l : Layout) (s : Plan) (c k : ℕ) → IsPlan l s → IsMove 
 carry_order l s c k plan v = let m = plan.moves c k v in omega (arith, m.lift_takes, m.apart, m.lower_takes)
 
 -- setting down: nothing but the set-downs of the nth at the tick
-pub set_agree : (s : Plan) (t n free low begin c k : ℕ) → (s.setter c k ≡ n → s.rest c k ≡ t → ⊥) → Agree (IsHeld s (clock t n free low begin)) (IsHeld s (clock t (n + 1) free low begin)) c k
+pub set_agree : (s : Plan) (t n free low begin c k : ℕ) → (s.setter c k ≡ n → s.rest c k ≡ t → ⊥)
+    → Agree (IsHeld s (clock t n free low begin)) (IsHeld s (clock t (n + 1) free low begin)) c k
 set_agree s t n free low begin c k none Lowering = let ne = cases_eq (s.setter c k) n in
-    ⊎_elim (λ e. let no : s.rest c k ≡ t → ⊥ = none e in (λ h. (h.0, h.1, omega (arith, h.2)), λ h. (h.0, h.1, omega (arith, h.2)))) (λ no. (λ h. (h.0, h.1, omega (arith, h.2)), λ h. (h.0, h.1, omega (arith, h.2)))) ne
+    ⊎_elim (λ e. let no : s.rest c k ≡ t → ⊥ = none e in (
+      λ h. (h.0, h.1, omega (arith, h.2)),
+      λ h. (h.0, h.1, omega (arith, h.2)),
+    )) (λ no. (
+      λ h. (h.0, h.1, omega (arith, h.2)),
+      λ h. (h.0, h.1, omega (arith, h.2)),
+    )) ne
 set_agree s t n free low begin c k none (Resting age) = let ne = cases_eq (s.setter c k) n in
-    ⊎_elim (λ e. let no : s.rest c k ≡ t → ⊥ = none e in (λ h. (h.0, h.1, (omega (arith, h.2.0), h.2.1, h.2.2)), λ h. (h.0, h.1, (omega (arith, h.2.0), h.2.1, h.2.2))))
+    ⊎_elim (λ e. let no : s.rest c k ≡ t → ⊥ = none e in (
+      λ h. (h.0, h.1, (omega (arith, h.2.0), h.2.1, h.2.2)),
+      λ h. (h.0, h.1, (omega (arith, h.2.0), h.2.1, h.2.2)),
+    ))
     (λ no. (λ h. (h.0, h.1, (omega (arith, h.2.0), h.2.1, h.2.2)), λ h. (h.0, h.1, (omega (arith, h.2.0), h.2.1, h.2.2)))) ne
 set_agree s t n free low begin c k none Lifting = let ne = cases_eq (s.setter c k) n in
     ⊎_elim (λ e. let no : s.rest c k ≡ t → ⊥ = none e in (λ h. (h.0, h.1, (omega (arith, h.2.0), h.2.1)), λ h. (h.0, h.1, (omega (arith, h.2.0), h.2.1))))
@@ -54,7 +65,8 @@ lifter_in l s c k plan v =
     (λ ne. omega (arith, (plan.moves c k (v.0, omega arith)).there))
     (cases_eq k s.last)
 
-pub setter_in : (l : Layout) (s : Plan) (c k : ℕ) → IsPlan l s → IsVisit s c k → (s.setter c k ≤ l.hoists) × (s.lowerer c k ≤ l.hoists)
+pub setter_in : (l : Layout) (s : Plan) (c k : ℕ) → IsPlan l s → IsVisit s c k
+    → (s.setter c k ≤ l.hoists) × (s.lowerer c k ≤ l.hoists)
 setter_in l s c k plan v =
     ⊎_elim
     (λ e. let a : s.setter c k ≡ s.setter c 0 = ap (s.setter c) e in let b : s.lowerer c k ≡ s.lowerer c 0 = ap (s.lowerer c) e in
@@ -78,13 +90,16 @@ still t n h e none = ⊎_elim
     (λ other. record { le = λ p. omega arith; lt = λ p. omega arith })
     (cases_eq h n)
 
-pub free_agree : (s : Plan) (t n set low begin c k : ℕ) → Still t n (s.lifter c k) (s.leave c k) → Agree (IsHeld s (clock t set n low begin)) (IsHeld s (clock t set (n + 1) low begin)) c k
+pub free_agree : (s : Plan) (t n set low begin c k : ℕ) → Still t n (s.lifter c k) (s.leave c k)
+    → Agree (IsHeld s (clock t set n low begin)) (IsHeld s (clock t set (n + 1) low begin)) c k
 free_agree s t n set low begin c k same r = (λ h. (h.0, same.le h.1, h.2), λ h. (h.0, omega (arith, h.1), h.2))
 
-pub low_agree : (s : Plan) (t n set free begin c k : ℕ) → Still t n (s.lowerer c k) (s.enter c k) → Agree (IsHeld s (clock t set free n begin)) (IsHeld s (clock t set free (n + 1) begin)) c k
+pub low_agree : (s : Plan) (t n set free begin c k : ℕ) → Still t n (s.lowerer c k) (s.enter c k)
+    → Agree (IsHeld s (clock t set free n begin)) (IsHeld s (clock t set free (n + 1) begin)) c k
 low_agree s t n set free begin c k same r = (λ h. (omega (arith, h.0), h.1, h.2), λ h. (same.lt h.0, h.1, h.2))
 
-pub begin_agree : (s : Plan) (t n set free low c k : ℕ) → Still t n (s.lifter c k) (s.lift c k) → Agree (IsHeld s (clock t set free low n)) (IsHeld s (clock t set free low (n + 1))) c k
+pub begin_agree : (s : Plan) (t n set free low c k : ℕ) → Still t n (s.lifter c k) (s.lift c k)
+    → Agree (IsHeld s (clock t set free low n)) (IsHeld s (clock t set free low (n + 1))) c k
 begin_agree s t n set free low c k same Lowering = (λ h. h, λ h. h)
 begin_agree s t n set free low c k same (Resting age) = (λ h. (h.0, h.1, (h.2.0, same.le h.2.1, h.2.2)), λ h. (h.0, h.1, (h.2.0, omega (arith, h.2.1), h.2.2)))
 begin_agree s t n set free low c k same Lifting = (λ h. (h.0, h.1, (h.2.0, omega (arith, h.2.1))), λ h. (h.0, h.1, (h.2.0, same.lt h.2.1)))

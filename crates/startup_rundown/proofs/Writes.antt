@@ -24,7 +24,8 @@ hold_same s P Q hold shows agree = record {
 }
 
 -- the tank of visit (d, m), which no other visit holds, gets its rest w
-pub hold_write : (s : Plan) (P Q : ℕ → ℕ → Rest → Type 0) (hold : ℕ → Option Hold) (d m i : ℕ) (w : Rest) → ShowsHolds s P hold
+pub hold_write : (s : Plan) (P Q : ℕ → ℕ → Rest → Type 0) (hold : ℕ → Option Hold) (d m i : ℕ) (w : Rest)
+    → ShowsHolds s P hold
     → IsVisit s d m → s.tank d m ≡ i
     → ((x : Hold) → hold i ≡ Some x → (x.carrier ≡ d) × (x.stage ≡ m))
     → Q d m w → ((r : Rest) → Q d m r → r ≡ w)
@@ -57,7 +58,8 @@ hold_write s P Q hold d m i w shows there tank own is only agree =
           (cases_eq i j);
     }
   where
-    away : (c k : ℕ) (r : Rest) → IsVisit s c k → Q c k r → Other d m c k → with hold i (Some (hold_of d m w)) (s.tank c k) ≡ Some (hold_of c k r)
+    away : (c k : ℕ) (r : Rest) → IsVisit s c k → Q c k r → Other d m c k
+        → with hold i (Some (hold_of d m w)) (s.tank c k) ≡ Some (hold_of c k r)
     away c k r v q other =
         let old = shows.held c k r v ((agree c k v other r).1 q) in
         let elsewhere : i ≡ s.tank c k → ⊥ = λ e. other (own (hold_of c k r) (let g = old in cc)) in
@@ -100,7 +102,8 @@ carry_same s t P Q carry shows same = record {
 }
 
 -- hoist h ends its carry (d, m)
-pub carry_clear : (s : Plan) (t : ℕ) (P Q : ℕ → ℕ → Type 0) (carry : ℕ → Option Carry) (d m h : ℕ) → ShowsCarries s t P carry
+pub carry_clear : (s : Plan) (t : ℕ) (P Q : ℕ → ℕ → Type 0) (carry : ℕ → Option Carry) (d m h : ℕ)
+    → ShowsCarries s t P carry
     → carry h ≡ Some (carry_of s t d m) → s.lifter d m ≡ h
     → (Q d m → ⊥)
     → ((c k : ℕ) → IsMove s c k → Other d m c k → Same P Q c k)
@@ -126,7 +129,8 @@ carry_clear s t P Q carry d m h shows own by gone same =
     }
 
 -- hoist h, which carries nothing, begins (d, m)
-pub carry_write : (s : Plan) (t : ℕ) (P Q : ℕ → ℕ → Type 0) (carry : ℕ → Option Carry) (d m h : ℕ) → ShowsCarries s t P carry
+pub carry_write : (s : Plan) (t : ℕ) (P Q : ℕ → ℕ → Type 0) (carry : ℕ → Option Carry) (d m h : ℕ)
+    → ShowsCarries s t P carry
     → carry h ≡ None → IsMove s d m → s.lifter d m ≡ h
     → Q d m
     → ((c k : ℕ) → IsMove s c k → Other d m c k → Same P Q c k)
@@ -148,7 +152,8 @@ carry_write s t P Q carry d m h shows none there by is same =
           ⊎_elim
           (λ here.
           let two : carry_of s t d m ≡ x = let g = with_same carry h (Some (carry_of s t d m)) j here in cc in
-          subst (λ (y : Carry). IsMove s y.carrier y.step × (s.lifter y.carrier y.step ≡ j) × Q y.carrier y.step × (y ≡ carry_of s t y.carrier y.step)) two (there, by ∙ here, is, refl))
+          subst (λ (y : Carry). IsMove s y.carrier y.step × (s.lifter y.carrier y.step ≡ j) × Q y.carrier y.step
+          × (y ≡ carry_of s t y.carrier y.step)) two (there, by ∙ here, is, refl))
           (λ elsewhere.
           let old : carry j ≡ Some x = let g = with_other carry h (Some (carry_of s t d m)) j elsewhere in cc in
           let g = shows.carries j x old in
@@ -157,7 +162,8 @@ carry_write s t P Q carry d m h shows none there by is same =
           (cases_eq h j);
     }
   where
-    away : (c k : ℕ) → IsMove s c k → Q c k → Other d m c k → with carry h (Some (carry_of s t d m)) (s.lifter c k) ≡ Some (carry_of s t c k)
+    away : (c k : ℕ) → IsMove s c k → Q c k → Other d m c k
+        → with carry h (Some (carry_of s t d m)) (s.lifter c k) ≡ Some (carry_of s t c k)
     away c k v q other =
         let old = shows.carried c k v ((same c k v other).1 q) in
         let elsewhere : h ≡ s.lifter c k → ⊥ = λ e. (let g = old in cc) in

@@ -24,7 +24,8 @@ abbrev pub is_loaded : LineData → Timetable → ℕ → ℕ → ℕ → Bool
 is_loaded l p n t h =
     is_some (pick_move n (last_stage l) (λ c k. (run_hoist l p c k == h) && (nat_lt (run_start l p c k) t && nat_lt (t - 1) (run_end l p c k))) (λ c k. c))
 
--- the order into tick t: every hoist follows its path, a loaded one by its carry, and only the carriers of the run are moved, put on and taken off
+-- the order into tick t: every hoist follows its path, a loaded one by its carry, and only the carriers of the run are
+-- moved, put on and taken off
 abbrev pub order_into : LineData → Timetable → ℕ → ℕ → Command
 order_into l p n t = record {
   go = λ h. cond ((t == first_tick l p) || is_loaded l p n t h) Stay (toward (position p h (t - 1)) (position p h t));
@@ -37,7 +38,8 @@ order_into l p n t = record {
 abbrev pub first_place : LineData → Timetable → ℕ → ℕ
 first_place l p h = position p h (first_tick l p)
 
--- the machine that is driven through the run of n carriers makes no breach, ends with an empty frame once all are put on, and logs the run
+-- the machine that is driven through the run of n carriers makes no breach, ends with an empty frame once all are put
+-- on, and logs the run
 abbrev pub RunsThrough : LineData → Timetable → ℕ → Type 0
 RunsThrough l p n =
     (f : Scene)

@@ -82,4 +82,5 @@ puts_on r t = is_some (pick r.line.degree (λ c. is_due r c ((timetable_of r.tim
 
 -- where hoist h goes into tick t
 abbrev pub go_of : RunnerData → ℕ → ℕ → Go
-go_of r t h = cond ((t == first_tick r) || is_loaded r t h) Stay (toward (position (timetable_of r.timetable) h (t - 1)) (position (timetable_of r.timetable) h t))
+go_of r t h = cond ((t == first_tick r) || is_loaded r t h) Stay
+    (toward (position (timetable_of r.timetable) h (t - 1)) (position (timetable_of r.timetable) h t))

@@ -24,7 +24,9 @@ either P true x y p q = p
 either P false x y p q = q
 
 -- a tank that is written holds nobody of a great age
-written : (b i : ℕ) (hold : ℕ → Option Hold) (v : Option Hold) → IfSome v (λ x. RestBelow b x.rest) → ((j : ℕ) → IfSome (hold j) (λ x. RestBelow b x.rest)) → (j : ℕ) → IfSome (with hold i v j) (λ x. RestBelow b x.rest)
+written : (b i : ℕ) (hold : ℕ → Option Hold) (v : Option Hold) → IfSome v (λ x. RestBelow b x.rest)
+    → ((j : ℕ) → IfSome (hold j) (λ x. RestBelow b x.rest)) → (j : ℕ)
+    → IfSome (with hold i v j) (λ x. RestBelow b x.rest)
 written b i hold v new old j = either (λ (o : Option Hold). IfSome o (λ x. RestBelow b x.rest)) (i == j) v (hold j) new (old j)
 
 aged_rest : (b : ℕ) (r : Rest) → RestBelow b r → RestBelow (b + 1) (older r)
@@ -32,11 +34,13 @@ aged_rest b Lowering y = tt
 aged_rest b (Resting age) y = omega arith
 aged_rest b Lifting y = tt
 
-aged_below : (b : ℕ) (o : Option Hold) → IfSome o (λ x. RestBelow b x.rest) → IfSome (option_map aged_hold o) (λ x. RestBelow (b + 1) x.rest)
+aged_below : (b : ℕ) (o : Option Hold) → IfSome o (λ x. RestBelow b x.rest)
+    → IfSome (option_map aged_hold o) (λ x. RestBelow (b + 1) x.rest)
 aged_below b None y = tt
 aged_below b (Some x) y = aged_rest b x.rest y
 
-set_young : (l : Layout) (b n h : ℕ) (o : Option Carry) (f : Scene) → 0 < b → Young b n f → Young b n (set_down_by l h o f)
+set_young : (l : Layout) (b n h : ℕ) (o : Option Carry) (f : Scene) → 0 < b → Young b n f
+    → Young b n (set_down_by l h o f)
 set_young l b n h None f some y = y
 set_young l b n h (Some c) f some y =
     either (λ (g : Scene). Young b n g) (c.elapsed == length_of l c)
@@ -54,7 +58,8 @@ off_young l o b n f y =
     either (λ (g : Scene). Young b n g) o.off (record f { hold = with f.hold l.unload_tank None }) f
     (record { next = y.next; ages = written b l.unload_tank f.hold None tt y.ages }) y
 
-put_below : (l : Layout) (b : ℕ) (f : Scene) (put : Bool) → 0 < b → f.next + 1 < b → ((i : ℕ) → IfSome (f.hold i) (λ x. RestBelow b x.rest))
+put_below : (l : Layout) (b : ℕ) (f : Scene) (put : Bool) → 0 < b → f.next + 1 < b
+    → ((i : ℕ) → IfSome (f.hold i) (λ x. RestBelow b x.rest))
     → IsBelow b (cond put (record f { hold = with f.hold l.load_tank (Some (hold_of f.next 0 (Resting 0))); next = f.next + 1 }) f)
 put_below l b f true some next ages = record { next = next; ages = written b l.load_tank f.hold (Some (hold_of f.next 0 (Resting 0))) some ages }
 put_below l b f false some next ages = record { next = omega arith; ages = ages }
@@ -82,7 +87,8 @@ ends_below l o b f below =
     let set : Young (b + 1) f.next (each (set_down l) l.hoists t) =
     each_holds (λ h g. Young (b + 1) f.next g) (set_down l) l.hoists t start (λ h g lt y. set_young l (b + 1) f.next h (g.carry h) g some y) in
     let free : Young (b + 1) f.next (after_free l o f) =
-    each_holds (λ h g. Young (b + 1) f.next g) (lift_out l) l.hoists (each (set_down l) l.hoists t) set (λ h g lt y. free_young l (b + 1) f.next (g.carry h) g y) in
+    each_holds (λ h g. Young (b + 1) f.next g) (lift_out l) l.hoists (each (set_down l) l.hoists t) set
+    (λ h g lt y. free_young l (b + 1) f.next (g.carry h) g y) in
     let off : Young (b + 1) f.next (after_off l o f) = off_young l o (b + 1) f.next (after_free l o f) free in
     let next : (after_off l o f).next + 1 < b + 1 = let e = off.next in let lt = below.next in omega arith in
     let put : IsBelow (b + 1) (after_put l o f) = put_below l (b + 1) (after_off l o f) o.put some next off.ages in

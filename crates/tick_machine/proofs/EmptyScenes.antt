@@ -24,7 +24,8 @@ there_at n at h lt = ap (λ (b : Bool). cond b (at h) 0) (lt-ltb h n lt)
 pub not_there_at : (n : ℕ) (at : ℕ → ℕ) (h : ℕ) → n ≤ h → cond (nat_lt h n) (at h) 0 ≡ 0
 not_there_at n at h le = ap (λ (b : Bool). cond b (at h) 0) (le-ltb h n le)
 
-pub empty_is : (l : LineData) (at : List ℕ) (f : Frame) → length at ≡ l.hoists → f.at.items ≡ at → ((h : ℕ) → get_or f.carry.items h None ≡ None) → ((i : ℕ) → get_or f.hold.items i None ≡ None) → f.next ≡ 0
+pub empty_is : (l : LineData) (at : List ℕ) (f : Frame) → length at ≡ l.hoists → f.at.items ≡ at
+    → ((h : ℕ) → get_or f.carry.items h None ≡ None) → ((i : ℕ) → get_or f.hold.items i None ≡ None) → f.next ≡ 0
     → scene_of f ≡ empty_scene (layout_of l) (λ h. get_or at h 0)
 empty_is l at f count is carry hold next =
     scene_same (scene_of f) (empty_scene (layout_of l) (λ h. get_or at h 0))
@@ -35,7 +36,8 @@ empty_is l at f count is carry hold next =
     carry hold next
 
 -- positions that agree give the same empty frame
-pub empty_same : (l : Layout) (at at' : ℕ → ℕ) → ((h : ℕ) → h < l.hoists → at h ≡ at' h) → empty_scene l at ≡ empty_scene l at'
+pub empty_same : (l : Layout) (at at' : ℕ → ℕ) → ((h : ℕ) → h < l.hoists → at h ≡ at' h)
+    → empty_scene l at ≡ empty_scene l at'
 empty_same l at at' same =
     scene_same (empty_scene l at) (empty_scene l at')
     (λ h. ⊎_elim
@@ -69,7 +71,8 @@ pub empty_below : (l : Layout) (at : ℕ → ℕ) → IsBelow 1 (empty_scene l a
 empty_below l at = empty_by l at 0
 
 -- a list that was empty and is filled up holds one value
-pub filled : {A : Type 0} (xs old : List A) (n m : ℕ) (x : A) → old ≡ [] → xs ≡ take n old ++ replicate m x → (h : ℕ) → get_or xs h x ≡ x
+pub filled : {A : Type 0} (xs old : List A) (n m : ℕ) (x : A) → old ≡ [] → xs ≡ take n old ++ replicate m x → (h : ℕ)
+    → get_or xs h x ≡ x
 filled {A = A} xs old n m x none is h =
     let all : xs ≡ replicate m x = is ∙ ap (λ (o : List A). take n o ++ replicate m x) none ∙ ap (λ (ys : List A). ys ++ replicate m x) (take-nil n) in
     ap (λ (ys : List A). get_or ys h x) all ∙ replicate_at m x h

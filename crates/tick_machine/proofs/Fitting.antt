@@ -40,13 +40,15 @@ below_track : (h at track : ℕ) (b : Bool) → nat_lt at track ≡ b → cond b
 below_track h at track true is e = let lt = ltb-true at track is in omega arith
 below_track h at track false is e = absurd (let g = e in cc)
 
-moved_within : (l : Layout) (h : ℕ) (c : Option Carry) (go : Go) (at : ℕ) → IsLayout l → at ≤ l.track → IfSome c (CarryFits l 1999) → edge_by l h c go at ≡ None → moved_to l c go at ≤ l.track
+moved_within : (l : Layout) (h : ℕ) (c : Option Carry) (go : Go) (at : ℕ) → IsLayout l → at ≤ l.track
+    → IfSome c (CarryFits l 1999) → edge_by l h c go at ≡ None → moved_to l c go at ≤ l.track
 moved_within l h (Some c) go at layout le fits none = place_on_track l c.step c.from c.to (c.elapsed + 1) layout fits.from fits.to
 moved_within l h None Stay at layout le fits none = le
 moved_within l h None Low at layout le fits none = omega arith
 moved_within l h None High at layout le fits none = below_track h at l.track (nat_lt at l.track) refl none
 
-grown_fits : (l : Layout) (o : Option Carry) → IfSome o (CarryFits l 1999) → IfSome (option_map grown o) (CarryFits l 2000)
+grown_fits : (l : Layout) (o : Option Carry) → IfSome o (CarryFits l 1999)
+    → IfSome (option_map grown o) (CarryFits l 2000)
 grown_fits l None fits = tt
 grown_fits l (Some c) fits = record { from = fits.from; to = fits.to; step = fits.step; elapsed = let e = fits.elapsed in omega arith }
 
@@ -54,7 +56,8 @@ aged_fits : (l : Layout) (o : Option Hold) → IfSome o (HoldFits l) → IfSome 
 aged_fits l None fits = tt
 aged_fits l (Some x) fits = record { stage = fits.stage }
 
-pub tick_fits : (l : Layout) (o : Command) (f : Scene) → IsLayout l → Fits l 1999 f → first l.hoists (edge l o f) ≡ None → Fits l 2000 (after_tick l o f)
+pub tick_fits : (l : Layout) (o : Command) (f : Scene) → IsLayout l → Fits l 1999 f → first l.hoists (edge l o f) ≡ None
+    → Fits l 2000 (after_tick l o f)
 tick_fits l o f layout fits none = record {
   at = λ h lt. moved_within l h (f.carry h) (o.go h) (f.at h) layout (fits.at h lt) (fits.carry h) (first_pass l.hoists (edge l o f) h none lt);
   carry = λ h. grown_fits l (f.carry h) (fits.carry h);

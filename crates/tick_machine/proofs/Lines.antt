@@ -52,11 +52,13 @@ least_small l k line le =
     (λ above. subst (λ (b : Bool). cond b l.load (cond (k == last_stage l) l.unload (stage l k).min) ≤ 20000) (sym (ne_eqb k 0 above))
     (⊎_elim
     (λ here. subst (λ (b : Bool). cond b l.unload (stage l k).min ≤ 20000) (sym (eq-eqb k (last_stage l) here)) line.limits.unload)
-    (λ below. subst (λ (b : Bool). cond b l.unload (stage l k).min ≤ 20000) (sym (ne_eqb k (last_stage l) below)) (inner_small l k line (omega arith) (omega arith)))
+    (λ below. subst (λ (b : Bool). cond b l.unload (stage l k).min ≤ 20000) (sym (ne_eqb k (last_stage l) below))
+    (inner_small l k line (omega arith) (omega arith)))
     (cases_eq k (last_stage l))))
     (cases_eq k 0)
 
-places_once : (l : LineData) (i j : ℕ) → IsLine l → i < length l.tanks → j < length l.tanks → position_of l i ≡ position_of l j → i ≡ j
+places_once : (l : LineData) (i j : ℕ) → IsLine l → i < length l.tanks → j < length l.tanks
+    → position_of l i ≡ position_of l j → i ≡ j
 places_once l i j line a b same =
     ⊎_elim (λ e. e)
     (λ other. ⊎_elim
@@ -95,4 +97,8 @@ layout_is l line =
 -- a stage that is there has at least one tank, and its tanks are there
 pub first_tank_there : (l : LineData) (k : ℕ) → IsLine l → k < length l.stages → only_tank l k < length l.tanks
 first_tank_there l k line lt =
-    line.stages.there k (only_tank l k) (0, omega (arith, line.stages.count k lt), get_or_default (stage l k).tanks 0 (only_tank l k) 0 (omega (arith, line.stages.count k lt)))
+    line.stages.there k (only_tank l k) (
+      0,
+      omega (arith, line.stages.count k lt),
+      get_or_default (stage l k).tanks 0 (only_tank l k) 0 (omega (arith, line.stages.count k lt)),
+    )

@@ -60,6 +60,7 @@ pub record HoldPart (l : Layout) (free low : ℕ) (f : Scene) (i : ℕ) (x : Hol
 pub record Parts (l : Layout) (set free low : ℕ) (f : Scene) : Type 0 where
   pub carries : (h : ℕ) (y : Carry) → f.carry h ≡ Some y → CarryPart l set free low f h y
   pub holds : (i : ℕ) (x : Hold) → f.hold i ≡ Some x → HoldPart l free low f i x
-  pub one_hoist : (h h' : ℕ) (y y' : Carry) → f.carry h ≡ Some y → f.carry h' ≡ Some y' → y.carrier ≡ y'.carrier → h ≡ h'
+  pub one_hoist : (h h' : ℕ) (y y' : Carry) → f.carry h ≡ Some y → f.carry h' ≡ Some y' → y.carrier ≡ y'.carrier
+      → h ≡ h'
   pub one_rest : (c i i' : ℕ) → RestsIn f c i → RestsIn f c i' → i ≡ i'
   pub not_both : (c i h : ℕ) (y : Carry) → RestsIn f c i → f.carry h ≡ Some y → y.carrier ≡ c → ⊥

@@ -13,7 +13,8 @@ use Rattle.tick_machine.specs.Rules.{RestsIn}
 use Rattle.tick_machine.proofs.Writes.{with_same, with_other}
 use Rattle.tick_machine.proofs.Partway.{CarryPart, HoldPart, RestPart, Parts}
 
-rest_stays : (l : Layout) (n h i c k : ℕ) (f : Scene) (v : Option Carry) (r : Rest) → f.carry h ≡ None → RestPart l n n f.carry i c k r → RestPart l n n (with f.carry h v) i c k r
+rest_stays : (l : Layout) (n h i c k : ℕ) (f : Scene) (v : Option Carry) (r : Rest) → f.carry h ≡ None
+    → RestPart l n n f.carry i c k r → RestPart l n n (with f.carry h v) i c k r
 rest_stays l n h i c k f v Lowering none g = record {
   h = g.h;
   y = g.y;
@@ -34,8 +35,11 @@ rest_stays l n h i c k f v Lifting none g = record {
   is = with_other f.carry h v g.h (λ same. let a = ap f.carry same in let b = g.is in cc) ∙ g.is;
 }
 
-pub begins_keep : (l : Layout) (n h c k age from to : ℕ) (f : Scene) (x : Carry) → Parts l n n n f → h < n → h < l.hoists → f.at h ≡ move_place l x.step x.from x.to x.elapsed → f.carry h ≡ None → f.hold from ≡ Some (hold_of c k (Resting age))
-    → k < l.last → l.serves to (k + 1) ≡ true → 0 < l.lift k → l.lower (k + 1) < length_of l x → x ≡ record { carrier = c; step = k; elapsed = 0; from = from; to = to }
+pub begins_keep : (l : Layout) (n h c k age from to : ℕ) (f : Scene) (x : Carry) → Parts l n n n f → h < n
+    → h < l.hoists → f.at h ≡ move_place l x.step x.from x.to x.elapsed → f.carry h ≡ None
+    → f.hold from ≡ Some (hold_of c k (Resting age))
+    → k < l.last → l.serves to (k + 1) ≡ true → 0 < l.lift k → l.lower (k + 1) < length_of l x
+    → x ≡ record { carrier = c; step = k; elapsed = 0; from = from; to = to }
     → Parts l n n n (record f { carry = with f.carry h (Some x); hold = with f.hold from (Some (hold_of c k Lifting)) })
 begins_keep l n h c k age from to f x rules there on_line at none has below way lift long is =
     let u : Option Carry = Some x in
@@ -77,7 +81,9 @@ begins_keep l n h c k age from to f x rules there on_line at none has below way 
       to = ap (λ (i : ℕ). l.serves i (x.step + 1)) at_to ∙ ap (λ (j : ℕ). l.serves to (j + 1)) step ∙ way;
       known = let g = own.known in omega arith;
       going = omega arith;
-      lifting = λ on. with_same f.hold from v x.from (sym at_from) ∙ ap (λ (d : ℕ). Some (hold_of d k Lifting)) (sym carrier) ∙ ap (λ (m : ℕ). Some (hold_of x.carrier m Lifting)) (sym step);
+      lifting = λ on. with_same f.hold from v x.from (sym at_from)
+          ∙ ap (λ (d : ℕ). Some (hold_of d k Lifting)) (sym carrier)
+          ∙ ap (λ (m : ℕ). Some (hold_of x.carrier m Lifting)) (sym step);
       lowering = λ on. absurd (omega (arith, on));
     } in
     record {

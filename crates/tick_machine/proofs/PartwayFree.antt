@@ -13,7 +13,8 @@ use Rattle.tick_machine.proofs.Writes.{with_same, with_other}
 use Rattle.tick_machine.proofs.Partway.{IsLifting, HoldPart, RestPart, Parts}
 
 -- what is still to be lifted out by others stands as before
-rest_freed : (l : Layout) (h i c k : ℕ) (f : Scene) (x : Carry) (r : Rest) → f.carry h ≡ Some x → (x.from ≡ i → ⊥) → RestPart l h 0 f.carry i c k r → RestPart l (h + 1) 0 f.carry i c k r
+rest_freed : (l : Layout) (h i c k : ℕ) (f : Scene) (x : Carry) (r : Rest) → f.carry h ≡ Some x → (x.from ≡ i → ⊥)
+    → RestPart l h 0 f.carry i c k r → RestPart l (h + 1) 0 f.carry i c k r
 rest_freed l h i c k f x Lowering has other g = g
 rest_freed l h i c k f x (Resting age) has other g = tt
 rest_freed l h i c k f x Lifting has other g = record {
@@ -30,7 +31,8 @@ rest_freed l h i c k f x Lifting has other g = record {
 }
 
 -- hoist h has lifted its carrier out
-pub frees_keep : (l : Layout) (set h : ℕ) (f : Scene) (x : Carry) → Parts l set h 0 f → f.carry h ≡ Some x → x.elapsed ≡ l.lift x.step → Parts l set (h + 1) 0 (record f { hold = with f.hold x.from None })
+pub frees_keep : (l : Layout) (set h : ℕ) (f : Scene) (x : Carry) → Parts l set h 0 f → f.carry h ≡ Some x
+    → x.elapsed ≡ l.lift x.step → Parts l set (h + 1) 0 (record f { hold = with f.hold x.from None })
 frees_keep l set h f x parts has now =
     let own = parts.carries h x has in
     let was : f.hold x.from ≡ Some (hold_of x.carrier x.step Lifting) = own.lifting (omega arith) in
@@ -79,7 +81,9 @@ frees_keep l set h f x parts has now =
       not_both = λ c i h' y a. parts.not_both c i h' y (resting c i a);
     }
 
-rest_idle : (l : Layout) (h i c k : ℕ) (f : Scene) (r : Rest) → ((y : Carry) → f.carry h ≡ Some y → y.elapsed ≡ l.lift y.step → ⊥) → RestPart l h 0 f.carry i c k r → RestPart l (h + 1) 0 f.carry i c k r
+rest_idle : (l : Layout) (h i c k : ℕ) (f : Scene) (r : Rest)
+    → ((y : Carry) → f.carry h ≡ Some y → y.elapsed ≡ l.lift y.step → ⊥) → RestPart l h 0 f.carry i c k r
+    → RestPart l (h + 1) 0 f.carry i c k r
 rest_idle l h i c k f Lowering none g = g
 rest_idle l h i c k f (Resting age) none g = tt
 rest_idle l h i c k f Lifting none g = record {
@@ -96,7 +100,8 @@ rest_idle l h i c k f Lifting none g = record {
 }
 
 -- hoist h lifts nothing out
-pub idle_frees : (l : Layout) (set h : ℕ) (f : Scene) → Parts l set h 0 f → ((y : Carry) → f.carry h ≡ Some y → y.elapsed ≡ l.lift y.step → ⊥) → Parts l set (h + 1) 0 f
+pub idle_frees : (l : Layout) (set h : ℕ) (f : Scene) → Parts l set h 0 f
+    → ((y : Carry) → f.carry h ≡ Some y → y.elapsed ≡ l.lift y.step → ⊥) → Parts l set (h + 1) 0 f
 idle_frees l set h f parts none = record {
   carries = λ h' y e.
       let r = parts.carries h' y e in
@@ -118,7 +123,8 @@ idle_frees l set h f parts none = record {
 }
 
 -- hoist h ends no carry
-pub idle_sets : (l : Layout) (h : ℕ) (f : Scene) → Parts l h 0 0 f → ((y : Carry) → f.carry h ≡ Some y → y.elapsed ≡ length_of l y → ⊥) → Parts l (h + 1) 0 0 f
+pub idle_sets : (l : Layout) (h : ℕ) (f : Scene) → Parts l h 0 0 f
+    → ((y : Carry) → f.carry h ≡ Some y → y.elapsed ≡ length_of l y → ⊥) → Parts l (h + 1) 0 0 f
 idle_sets l h f parts none = record {
   carries = λ h' y e.
       let r = parts.carries h' y e in
@@ -143,7 +149,8 @@ idle_sets l h f parts none = record {
 }
 
 -- who rests in tank i is taken off
-pub clears_keep : (l : Layout) (set free low i c k age : ℕ) (f : Scene) → Parts l set free low f → f.hold i ≡ Some (hold_of c k (Resting age)) → Parts l set free low (record f { hold = with f.hold i None })
+pub clears_keep : (l : Layout) (set free low i c k age : ℕ) (f : Scene) → Parts l set free low f
+    → f.hold i ≡ Some (hold_of c k (Resting age)) → Parts l set free low (record f { hold = with f.hold i None })
 clears_keep l set free low i c k age f parts was =
     let after : Scene = record f { hold = with f.hold i None } in
     let back : (j : ℕ) (y : Hold) → with f.hold i None j ≡ Some y → f.hold j ≡ Some y =
@@ -178,7 +185,8 @@ clears_keep l set free low i c k age f parts was =
     }
 
 -- the next carrier is put on
-pub puts_keep : (l : Layout) (set free low : ℕ) (f : Scene) → IsLayout l → Parts l set free low f → f.hold l.load_tank ≡ None
+pub puts_keep : (l : Layout) (set free low : ℕ) (f : Scene) → IsLayout l → Parts l set free low f
+    → f.hold l.load_tank ≡ None
     → Parts l set free low (record f { hold = with f.hold l.load_tank (Some (hold_of f.next 0 (Resting 0))); next = f.next + 1 })
 puts_keep l set free low f layout parts empty =
     let v : Option Hold = Some (hold_of f.next 0 (Resting 0)) in
@@ -211,7 +219,12 @@ puts_keep l set free low f layout parts empty =
           ⊎_elim
           (λ here.
           let two : hold_of f.next 0 (Resting 0) ≡ y = let a = with_same f.hold l.load_tank v i here in cc in
-          subst (λ (z : Hold). HoldPart l free low after i z) two (record { serves = ap (λ (j : ℕ). l.serves j 0) (sym here) ∙ layout.load; known = omega arith; rest = tt }))
+          subst (λ (z : Hold). HoldPart l free low after i z) two (record {
+            serves = ap (λ (j : ℕ). l.serves j 0)
+                (sym here) ∙ layout.load;
+            known = omega arith;
+            rest = tt;
+          }))
           (λ other.
           let r = parts.holds i y (sym (with_other f.hold l.load_tank v i other) ∙ e) in
           record { serves = r.serves; known = omega (arith, r.known); rest = r.rest })

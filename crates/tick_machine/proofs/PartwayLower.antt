@@ -13,13 +13,23 @@ use Rattle.tick_machine.specs.Rules.{RestsIn}
 use Rattle.tick_machine.proofs.Writes.{with_same, with_other}
 use Rattle.tick_machine.proofs.Partway.{HoldPart, RestPart, Parts}
 
-rest_more : (l : Layout) (free n : ℕ) (carry : ℕ → Option Carry) (i c k : ℕ) (r : Rest) → RestPart l free n carry i c k r → RestPart l free (n + 1) carry i c k r
-rest_more l free n carry i c k Lowering g = record { h = g.h; y = g.y; is = g.is; carrier = g.carrier; step = g.step; tank = g.tank; on = (let a = g.on in omega arith) }
+rest_more : (l : Layout) (free n : ℕ) (carry : ℕ → Option Carry) (i c k : ℕ) (r : Rest)
+    → RestPart l free n carry i c k r → RestPart l free (n + 1) carry i c k r
+rest_more l free n carry i c k Lowering g = record {
+  h = g.h;
+  y = g.y;
+  is = g.is;
+  carrier = g.carrier;
+  step = g.step;
+  tank = g.tank;
+  on = (let a = g.on in omega arith);
+}
 rest_more l free n carry i c k (Resting age) g = tt
 rest_more l free n carry i c k Lifting g = g
 
 -- hoist h lowers into a free tank
-pub lowers_keep : (l : Layout) (set free h : ℕ) (f : Scene) (x : Carry) → Parts l set free h f → f.carry h ≡ Some x → lowers_now l x ≡ true → f.hold x.to ≡ None
+pub lowers_keep : (l : Layout) (set free h : ℕ) (f : Scene) (x : Carry) → Parts l set free h f → f.carry h ≡ Some x
+    → lowers_now l x ≡ true → f.hold x.to ≡ None
     → Parts l set free (h + 1) (record f { hold = with f.hold x.to (Some (hold_of x.carrier (x.step + 1) Lowering)) })
 lowers_keep l set free h f x rules has now empty =
     let v : Option Hold = Some (hold_of x.carrier (x.step + 1) Lowering) in
@@ -73,7 +83,9 @@ lowers_keep l set free h f x rules has now empty =
     }
 
 -- no hoist but h begins to lower by h's turn, so a turn without a lowering keeps them too
-pub idle_keeps : (l : Layout) (set free h : ℕ) (f : Scene) → Parts l set free h f → ((y : Carry) → f.carry h ≡ Some y → y.elapsed + l.lower (y.step + 1) ≡ length_of l y → ⊥) → Parts l set free (h + 1) f
+pub idle_keeps : (l : Layout) (set free h : ℕ) (f : Scene) → Parts l set free h f
+    → ((y : Carry) → f.carry h ≡ Some y → y.elapsed + l.lower (y.step + 1) ≡ length_of l y → ⊥)
+    → Parts l set free (h + 1) f
 idle_keeps l set free h f rules none = record {
   carries = λ h' y e.
       let r = rules.carries h' y e in
@@ -90,7 +102,11 @@ idle_keeps l set free h f rules none = record {
             (λ same. let other : y.elapsed + l.lower (y.step + 1) ≡ length_of l y → ⊥ = none y (ap f.carry same ∙ e) in omega (arith, on))
             (λ other. omega (arith, on)) (cases_eq h h'));
       };
-  holds = λ i y e. let r = rules.holds i y e in record { serves = r.serves; known = r.known; rest = rest_more l free h f.carry i y.carrier y.stage y.rest r.rest };
+  holds = λ i y e. let r = rules.holds i y e in record {
+    serves = r.serves;
+    known = r.known;
+    rest = rest_more l free h f.carry i y.carrier y.stage y.rest r.rest;
+  };
   one_hoist = rules.one_hoist;
   one_rest = rules.one_rest;
   not_both = rules.not_both;

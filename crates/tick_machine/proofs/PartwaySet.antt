@@ -13,7 +13,8 @@ use Rattle.tick_machine.proofs.Writes.{with_same, with_other}
 use Rattle.tick_machine.proofs.Partway.{IsLifting, HoldPart, RestPart, Parts}
 
 -- what the other carries hold up is still there
-rest_kept : (l : Layout) (h i c k : ℕ) (f : Scene) (x : Carry) (r : Rest) → f.carry h ≡ Some x → (x.to ≡ i → ⊥) → l.lift x.step < x.elapsed → RestPart l 0 0 f.carry i c k r → RestPart l 0 0 (with f.carry h None) i c k r
+rest_kept : (l : Layout) (h i c k : ℕ) (f : Scene) (x : Carry) (r : Rest) → f.carry h ≡ Some x → (x.to ≡ i → ⊥)
+    → l.lift x.step < x.elapsed → RestPart l 0 0 f.carry i c k r → RestPart l 0 0 (with f.carry h None) i c k r
 rest_kept l h i c k f x Lowering has other past g = record {
   h = g.h;
   y = g.y;
@@ -21,7 +22,8 @@ rest_kept l h i c k f x Lowering has other past g = record {
   step = g.step;
   tank = g.tank;
   on = g.on;
-  is = with_other f.carry h None g.h (λ same. let two : x ≡ g.y = let a = ap f.carry same in let b = g.is in cc in other (ap (λ (z : Carry). z.to) two ∙ g.tank)) ∙ g.is;
+  is = with_other f.carry h None g.h (λ same. let two : x ≡ g.y = let a = ap f.carry same in let b = g.is in cc in other
+      (ap (λ (z : Carry). z.to) two ∙ g.tank)) ∙ g.is;
 }
 rest_kept l h i c k f x (Resting age) has other past g = tt
 rest_kept l h i c k f x Lifting has other past g = record {
@@ -38,7 +40,8 @@ rest_kept l h i c k f x Lifting has other past g = record {
 }
 
 -- hoist h ends its carry
-pub sets_keep : (l : Layout) (h : ℕ) (f : Scene) (x : Carry) → Parts l h 0 0 f → f.carry h ≡ Some x → x.elapsed ≡ length_of l x → 0 < l.lower (x.step + 1) → l.lift x.step < length_of l x
+pub sets_keep : (l : Layout) (h : ℕ) (f : Scene) (x : Carry) → Parts l h 0 0 f → f.carry h ≡ Some x
+    → x.elapsed ≡ length_of l x → 0 < l.lower (x.step + 1) → l.lift x.step < length_of l x
     → Parts l (h + 1) 0 0 (record f { carry = with f.carry h None; hold = with f.hold x.to (Some (hold_of x.carrier (x.step + 1) (Resting 0))) })
 sets_keep l h f x rules has ends low long =
     let v : Option Hold = Some (hold_of x.carrier (x.step + 1) (Resting 0)) in
@@ -87,7 +90,12 @@ sets_keep l h f x rules has ends low long =
           ⊎_elim
           (λ here.
           let two : hold_of x.carrier (x.step + 1) (Resting 0) ≡ y = let a = with_same f.hold x.to v i here in cc in
-          subst (λ (z : Hold). HoldPart l 0 0 rests i z) two (record { serves = ap (λ (j : ℕ). l.serves j (x.step + 1)) (sym here) ∙ own.to; known = own.known; rest = tt }))
+          subst (λ (z : Hold). HoldPart l 0 0 rests i z) two (record {
+            serves = ap (λ (j : ℕ). l.serves j (x.step + 1))
+                (sym here) ∙ own.to;
+            known = own.known;
+            rest = tt;
+          }))
           (λ other.
           let r = rules.holds i y (sym (with_other f.hold x.to v i other) ∙ e) in
           record { serves = r.serves; known = r.known; rest = rest_kept l h i y.carrier y.stage f x y.rest has other (omega arith) r.rest })

@@ -46,11 +46,13 @@ rested_before l o f c i (k, age, e) =
     let (a, resting) = resting_from g.x.rest age (ap (λ (w : Hold). w.rest) g.is) in
     (k, a, g.was ∙ ap (λ (w : Hold). Some w) (hold_is g.x c k (Resting a) (ap (λ (w : Hold). w.carrier) g.is) (ap (λ (w : Hold). w.stage) g.is) resting))
 
-rest_passes : (l : Layout) (o : Command) (f : Scene) (i c k : ℕ) (r : Rest) → KeepsRules l f → f.hold i ≡ Some (hold_of c k r) → RestRule l f i c k r → RestPart l 0 0 (after_tick l o f).carry i c k (older r)
+rest_passes : (l : Layout) (o : Command) (f : Scene) (i c k : ℕ) (r : Rest) → KeepsRules l f
+    → f.hold i ≡ Some (hold_of c k r) → RestRule l f i c k r → RestPart l 0 0 (after_tick l o f).carry i c k (older r)
 rest_passes l o f i c k Lowering rules held (h, y, by) =
     let r = rules.carries h y by.is in
     let here : f.hold y.to ≡ Some (hold_of y.carrier (y.step + 1) Lowering) =
-    ap f.hold by.tank ∙ held ∙ ap (λ (n : ℕ). Some (hold_of n k Lowering)) (sym by.carrier) ∙ ap (λ (m : ℕ). Some (hold_of y.carrier m Lowering)) (sym by.step) in
+    ap f.hold by.tank ∙ held ∙ ap (λ (n : ℕ). Some (hold_of n k Lowering)) (sym by.carrier)
+    ∙ ap (λ (m : ℕ). Some (hold_of y.carrier m Lowering)) (sym by.step) in
     let lowers : length_of l y ≤ y.elapsed + l.lower (y.step + 1) = r.lowering.0 here in
     record { h = h; y = grown y; is = ap (option_map grown) by.is; carrier = by.carrier; step = by.step; tank = by.tank; on = omega arith }
 rest_passes l o f i c k (Resting age) rules held rest = tt
@@ -86,7 +88,11 @@ passes_keep l o f rules =
           let g = aged_from (f.hold i) y e in
           let x = g.x in
           let r = rules.holds i x g.was in
-          let part : HoldPart l 0 0 after i (aged_hold x) = record { serves = r.serves; known = r.known; rest = rest_passes l o f i x.carrier x.stage x.rest rules g.was r.rest } in
+          let part : HoldPart l 0 0 after i (aged_hold x) = record {
+            serves = r.serves;
+            known = r.known;
+            rest = rest_passes l o f i x.carrier x.stage x.rest rules g.was r.rest;
+          } in
           subst (λ (z : Hold). HoldPart l 0 0 after i z) g.is part;
       one_hoist = λ h h' y y' e e' same.
           let g = grown_from (f.carry h) y e in

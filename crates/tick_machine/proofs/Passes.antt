@@ -17,7 +17,8 @@ first_pass (suc n) test h none lt =
     ⊎_elim (λ same. ap test same ∙ p.1) (λ other. first_pass n test h p.0 (omega arith)) (cases_eq h n)
 
 -- the lowest breach stays the first
-pub first_at : (test : ℕ → Option Breach) (n m : ℕ) (b : Breach) → m < n → first m test ≡ None → test m ≡ Some b → first n test ≡ Some b
+pub first_at : (test : ℕ → Option Breach) (n m : ℕ) (b : Breach) → m < n → first m test ≡ None → test m ≡ Some b
+    → first n test ≡ Some b
 first_at test zero m b lt none here = absurd (omega arith)
 first_at test (suc n) m b lt none here =
     ⊎_elim

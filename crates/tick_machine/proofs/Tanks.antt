@@ -5,12 +5,14 @@ use Rattle.std.proofs.lemmas.Bool.{cases_eq, eq-eqb, ne_eqb}
 use Rattle.tick_machine.specs.Layout.{Layout, IsLayout}
 use Rattle.tick_machine.specs.Points.{tank_among}
 
-pub no_tank_next : (l : Layout) (at n : ℕ) → tank_among l at n ≡ None → (l.place n ≡ at → ⊥) → tank_among l at (n + 1) ≡ None
+pub no_tank_next : (l : Layout) (at n : ℕ) → tank_among l at n ≡ None → (l.place n ≡ at → ⊥)
+    → tank_among l at (n + 1) ≡ None
 no_tank_next l at n none other =
     let e : n + 1 ≡ suc n = omega arith in
     ap (tank_among l at) e ∙ ap (λ (b : Bool). cond b (Some n) (tank_among l at n)) (ne_eqb (l.place n) at other) ∙ none
 
-pub tank_at_is : (l : Layout) (at n i : ℕ) → IsLayout l → n ≤ l.tanks → i < n → l.place i ≡ at → tank_among l at n ≡ Some i
+pub tank_at_is : (l : Layout) (at n i : ℕ) → IsLayout l → n ≤ l.tanks → i < n → l.place i ≡ at
+    → tank_among l at n ≡ Some i
 tank_at_is l at zero i layout le lt here = absurd (omega arith)
 tank_at_is l at (suc n) i layout le lt here =
     ⊎_elim

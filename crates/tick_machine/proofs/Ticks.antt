@@ -7,7 +7,8 @@ pub ticks_long : (l : Layout) (k from to : ℕ) → l.lift k + l.lower (k + 1) �
 unfolding move_ticks
 ticks_long l k from to = omega arith
 
-pub ticks_small : (l : Layout) (k from to : ℕ) → IsLayout l → k < l.last → from < l.tanks → to < l.tanks → move_ticks l k from to ≤ 2000
+pub ticks_small : (l : Layout) (k from to : ℕ) → IsLayout l → k < l.last → from < l.tanks → to < l.tanks
+    → move_ticks l k from to ≤ 2000
 unfolding move_ticks
 ticks_small l k from to layout step a b =
     omega (arith, (layout.lift k step).1, (layout.lower k step).1, layout.on_track from a, layout.on_track to b, layout.track)
@@ -17,6 +18,7 @@ pub place_start : (l : Layout) (k from to : ℕ) → move_place l k from to 0 �
 unfolding move_place
 place_start l k from to = omega arith
 
-pub place_on_track : (l : Layout) (k from to u : ℕ) → IsLayout l → from < l.tanks → to < l.tanks → move_place l k from to u ≤ l.track
+pub place_on_track : (l : Layout) (k from to u : ℕ) → IsLayout l → from < l.tanks → to < l.tanks
+    → move_place l k from to u ≤ l.track
 unfolding move_place
 place_on_track l k from to u layout a b = omega (arith, layout.on_track from a, layout.on_track to b)

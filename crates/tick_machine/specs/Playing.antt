@@ -18,7 +18,8 @@ pub record PlayingData : Type 0 where
 abbrev pub reached : PlayingData → List Event → Reached
 reached m log = record { frame = scene_of m.frame; log = log }
 
--- its frame is one of the line, and nothing in it is older than the tick; what the next frame and its order are written over has the line's lengths
+-- its frame is one of the line, and nothing in it is older than the tick; what the next frame and its order are written
+-- over has the line's lengths
 pub record IsPlaying (l : LineData) (t : ℕ) (now later : Frame) (o : Order) : Type 0 where
   pub frame : IsFrame l now
   pub next : IsSized l later

@@ -62,7 +62,8 @@ pub record KeepsRules (l : Layout) (f : Scene) : Type 0 where
   pub apart : AreApart l f.at
   pub carries : (h : ℕ) (y : Carry) → f.carry h ≡ Some y → CarryRule l f h y
   pub holds : (i : ℕ) (x : Hold) → f.hold i ≡ Some x → HoldRule l f i x
-  pub one_hoist : (h h' : ℕ) (y y' : Carry) → f.carry h ≡ Some y → f.carry h' ≡ Some y' → y.carrier ≡ y'.carrier → h ≡ h'
+  pub one_hoist : (h h' : ℕ) (y y' : Carry) → f.carry h ≡ Some y → f.carry h' ≡ Some y' → y.carrier ≡ y'.carrier
+      → h ≡ h'
   pub one_rest : (c i i' : ℕ) → RestsIn f c i → RestsIn f c i' → i ≡ i'
   pub not_both : (c i h : ℕ) (y : Carry) → RestsIn f c i → f.carry h ≡ Some y → y.carrier ≡ c → ⊥
 

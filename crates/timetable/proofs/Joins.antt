@@ -19,7 +19,8 @@ NoneBefore l p r = (g : Fault) → HasFault l p g → rule_of g < r → ⊥
 pub none_before_first : (l : LineData) (p : Timetable) → NoneBefore l p 0
 none_before_first l p g has lt = omega arith
 
-none_before_next : (l : LineData) (p : Timetable) (r : ℕ) → NoneBefore l p r → IsFirstOf r l p None → NoneBefore l p (r + 1)
+none_before_next : (l : LineData) (p : Timetable) (r : ℕ) → NoneBefore l p r → IsFirstOf r l p None
+    → NoneBefore l p (r + 1)
 none_before_next l p r none here g has lt =
     ⊎_elim (λ less. none g has less) (λ ge. here g has (omega (arith, lt, ge))) (cases_lt (rule_of g) r)
 
@@ -45,12 +46,14 @@ pub none_before_five : (l : LineData) (p : Timetable)
 none_before_five l p a b c d e = none_before_next l p 4 (none_before_four l p a b c d) e
 
 pub none_before_six : (l : LineData) (p : Timetable)
-    → IsFirstOf 0 l p None → IsFirstOf 1 l p None → IsFirstOf 2 l p None → IsFirstOf 3 l p None → IsFirstOf 4 l p None → IsFirstOf 5 l p None
+    → IsFirstOf 0 l p None → IsFirstOf 1 l p None → IsFirstOf 2 l p None → IsFirstOf 3 l p None → IsFirstOf 4 l p None
+    → IsFirstOf 5 l p None
     → NoneBefore l p 6
 none_before_six l p a b c d e f = none_before_next l p 5 (none_before_five l p a b c d e) f
 
 pub none_before_seven : (l : LineData) (p : Timetable)
-    → IsFirstOf 0 l p None → IsFirstOf 1 l p None → IsFirstOf 2 l p None → IsFirstOf 3 l p None → IsFirstOf 4 l p None → IsFirstOf 5 l p None → IsFirstOf 6 l p None
+    → IsFirstOf 0 l p None → IsFirstOf 1 l p None → IsFirstOf 2 l p None → IsFirstOf 3 l p None → IsFirstOf 4 l p None
+    → IsFirstOf 5 l p None → IsFirstOf 6 l p None
     → NoneBefore l p 7
 none_before_seven l p a b c d e f g = none_before_next l p 6 (none_before_six l p a b c d e f) g
 
@@ -58,7 +61,8 @@ none_before_seven l p a b c d e f g = none_before_next l p 6 (none_before_six l 
 abbrev pub IsAnswer : LineData → Timetable → Option Fault → Type 0
 IsAnswer l p answer = ((answer ≡ None) ↔ IsLegal l p) × IfSome answer (λ f. IsFirstFault l p f)
 
-pub fault_is_first : (l : LineData) (p : Timetable) (r : ℕ) (f : Fault) → IsLine l → NoneBefore l p r → IsFirstOf r l p (Some f) → IsAnswer l p (Some f)
+pub fault_is_first : (l : LineData) (p : Timetable) (r : ℕ) (f : Fault) → IsLine l → NoneBefore l p r
+    → IsFirstOf r l p (Some f) → IsAnswer l p (Some f)
 fault_is_first l p r f line none here = (
   (λ e. let no : Some f ≡ None = e in cc, λ legal. absurd (legal_has_none l p line legal f here.0)),
   record {
@@ -82,11 +86,13 @@ few (Dwell _ _) = lit< tt
 few (Numbering _ _ _) = lit< tt
 few (Hold _ _ _) = lit< tt
 
-pub no_fault_found : (l : LineData) (d : TimetableData) → IsLine l → FitsLine l d → IsTimetable d → NoneBefore l (timetable_of d) 8 → IsAnswer l (timetable_of d) None
+pub no_fault_found : (l : LineData) (d : TimetableData) → IsLine l → FitsLine l d → IsTimetable d
+    → NoneBefore l (timetable_of d) 8 → IsAnswer l (timetable_of d) None
 no_fault_found l d line fits valid none =
     ((λ e. no_fault_is_legal l d line fits valid (λ g has. none g has (few g)), λ legal. refl), tt)
 
 -- the last rule decides what the others left
-pub last_rule : (l : LineData) (d : TimetableData) (o : Option Fault) → IsLine l → FitsLine l d → IsTimetable d → NoneBefore l (timetable_of d) 7 → IsFirstOf 7 l (timetable_of d) o → IsAnswer l (timetable_of d) o
+pub last_rule : (l : LineData) (d : TimetableData) (o : Option Fault) → IsLine l → FitsLine l d → IsTimetable d
+    → NoneBefore l (timetable_of d) 7 → IsFirstOf 7 l (timetable_of d) o → IsAnswer l (timetable_of d) o
 last_rule l d None line fits valid none here = no_fault_found l d line fits valid (none_before_next l (timetable_of d) 7 none here)
 last_rule l d (Some f) line fits valid none here = fault_is_first l (timetable_of d) 7 f line none here

@@ -24,7 +24,8 @@ kept l d line h =
       off_count = omega (arith, fits.off_count, fits.put_count);
       start_count = same_product (length d.put) d.steps l.degree (last_stage l) (length d.start) fits.start_count fits.put_count fits.steps;
       hoist_count = same_product (length d.put) d.steps l.degree (last_stage l) (length d.hoist) fits.hoist_count fits.put_count fits.steps;
-      tank_count = same_product (length d.put) (d.steps + 1) l.degree (length l.stages) (length d.tank) fits.route.count fits.put_count (omega (arith, fits.steps, limits.stages));
+      tank_count = same_product (length d.put) (d.steps + 1) l.degree (length l.stages)
+          (length d.tank) fits.route.count fits.put_count (omega (arith, fits.steps, limits.stages));
       path_count = omega (arith, fits.path_count, mul-le-mul_right d.period limits.hoists.1);
       put_ticks = h.put_ticks;
       off_ticks = h.off_ticks;

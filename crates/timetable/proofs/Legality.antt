@@ -37,7 +37,8 @@ track_holds l p lt none =
     let at = at_place p h t lt in
     let after = after_place p h t in
     ⊎_elim
-    (λ fast. absurd (none (Speed h (t % p.period) (position p h (t % p.period)) (position p h (t % p.period + 1))) ((there, small t, omega (arith, at, after, fast)), refl, refl)))
+    (λ fast. absurd (none (Speed h (t % p.period) (position p h (t % p.period)) (position p h (t % p.period + 1)))
+    ((there, small t, omega (arith, at, after, fast)), refl, refl)))
     (λ le. le)
     (cases_lt 1 (abs_diff (position p h t) (position p h (t + 1)))) in
     record {
@@ -52,7 +53,8 @@ track_holds l p lt none =
             let at = at_place p h t lt in
             let at' = at_place p (h + 1) t lt in
             ⊎_elim
-            (λ near. absurd (none (Gap h (t % p.period) (position p h (t % p.period)) (position p (h + 1) (t % p.period))) ((there, small t, omega (arith, at, at', near)), refl, refl)))
+            (λ near. absurd (none (Gap h (t % p.period) (position p h (t % p.period))
+            (position p (h + 1) (t % p.period))) ((there, small t, omega (arith, at, at', near)), refl, refl)))
             (λ le. le)
             (cases_lt (position p (h + 1) t) (position p h t + l.gap));
       };
@@ -61,7 +63,9 @@ track_holds l p lt none =
     }
 
 -- two copies that meet, where no two different ones do
-alone_from : (P : ℕ → ℕ → ℕ → ℕ → ℤ → Type 0) (c k z c' k' z' : ℕ) → ((a b a' b' : ℕ) (s : ℤ) → AreTwo a b a' b' s → P a b a' b' s → ⊥) → P c k c' k' (pos z' -ℤ pos z) → P c' k' c k (pos z -ℤ pos z') → (c ≡ c') × (k ≡ k') × (z ≡ z')
+alone_from : (P : ℕ → ℕ → ℕ → ℕ → ℤ → Type 0) (c k z c' k' z' : ℕ)
+    → ((a b a' b' : ℕ) (s : ℤ) → AreTwo a b a' b' s → P a b a' b' s → ⊥) → P c k c' k' (pos z' -ℤ pos z)
+    → P c' k' c k (pos z -ℤ pos z') → (c ≡ c') × (k ≡ k') × (z ≡ z')
 alone_from P c k z c' k' z' none one other =
     ⊎_elim
     (λ less. absurd (none c k c' k' (pos z' -ℤ pos z) (inl less, λ e. omega (arith, less, e.0)) one))
@@ -90,13 +94,15 @@ CarryAtOnce l p c k c' k' s = (h : ℕ) × (t : ℕ) × (z : ℕ) × (z' : ℕ) 
 abbrev HeldAtOnce : LineData → Timetable → ℕ → ℕ → ℕ → ℕ → ℤ → Type 0
 HeldAtOnce l p c k c' k' s = (i : ℕ) × (t : ℕ) × (z : ℕ) × (z' : ℕ) × HoldsAt l p i c k z t × HoldsAt l p i c' k' z' t × (s ≡ pos z' -ℤ pos z)
 
-carried_holds : (l : LineData) (p : Timetable) → ((c k : ℕ) → IsMove l c k → p.hoist c k < l.hoists) → HasNoFault l p → IsCarried l p
+carried_holds : (l : LineData) (p : Timetable) → ((c k : ℕ) → IsMove l c k → p.hoist c k < l.hoists) → HasNoFault l p
+    → IsCarried l p
 carried_holds l p there none = record {
   hoist = there;
   along = λ c k u m le.
       ⊎_elim
       (λ e. e)
-      (λ ne. absurd (none (Motion (record { carrier = c; step = k }) u (place (motion l p c k) u) (position p (p.hoist c k) (p.start c k + u))) ((m, le, ne), refl, refl)))
+      (λ ne. absurd (none (Motion (record { carrier = c; step = k }) u (place (motion l p c k) u)
+      (position p (p.hoist c k) (p.start c k + u))) ((m, le, ne), refl, refl)))
       (cases_eq (position p (p.hoist c k) (p.start c k + u)) (place (motion l p c k) u));
   alone = λ h t c k z c' k' z' x y.
       alone_from (CarryAtOnce l p) c k z c' k' z'
@@ -121,7 +127,8 @@ when_so true x y e = refl
 when_so false x y e = absurd (let no : false ≡ true = e in cc)
 
 -- the times at an inner stage and at the stations
-arrival_next : (l : LineData) (p : Timetable) (c k : ℕ) → arrival l p c (k + 1) ≡ p.start c k + duration (motion l p c k)
+arrival_next : (l : LineData) (p : Timetable) (c k : ℕ)
+    → arrival l p c (k + 1) ≡ p.start c k + duration (motion l p c k)
 arrival_next l p c k =
     let e : k + 1 - 1 ≡ k = omega arith in
     when_not (k + 1 == 0) (p.put c) (p.start c (k + 1 - 1) + duration (motion l p c (k + 1 - 1))) (ne_eqb (k + 1) 0 (λ x. omega (arith, x)))
@@ -144,7 +151,8 @@ least_last l ne =
     ∙ when_so (last_stage l == last_stage l) l.unload (stage l (last_stage l)).min (eq-eqb (last_stage l) (last_stage l) refl)
 
 -- a dwell is in its window where it is not outside
-enough : (l : LineData) (p : Timetable) (c k : ℕ) → HasNoFault l p → IsVisit l c k → pos (least_dwell l k) ≤ℤ dwell l p c k
+enough : (l : LineData) (p : Timetable) (c k : ℕ) → HasNoFault l p → IsVisit l c k
+    → pos (least_dwell l k) ≤ℤ dwell l p c k
 enough l p c k none v =
     by_lt_z (dwell l p c k) (pos (least_dwell l k))
     (λ less. absurd (none (Dwell (record { carrier = c; stage = k }) (dwell l p c k)) ((v, inl less), refl)))
@@ -154,7 +162,8 @@ not_above : (o : Option ℕ) (D : ℤ) → (MatchOption o ⊥ (λ m. pos m <ℤ 
 not_above None D none = tt
 not_above (Some m) D none = by_lt_z (pos m) D (λ lt. absurd (none lt)) (λ le. le)
 
-not_too_long : (l : LineData) (p : Timetable) (c k : ℕ) → HasNoFault l p → IsVisit l c k → IfSome (stage l k).max (λ m. dwell l p c k ≤ℤ pos m)
+not_too_long : (l : LineData) (p : Timetable) (c k : ℕ) → HasNoFault l p → IsVisit l c k
+    → IfSome (stage l k).max (λ m. dwell l p c k ≤ℤ pos m)
 not_too_long l p c k none v = not_above (stage l k).max (dwell l p c k)
     (λ long. none (Dwell (record { carrier = c; stage = k }) (dwell l p c k)) ((v, inr long), refl))
 
@@ -162,7 +171,14 @@ windows_hold : (l : LineData) (p : Timetable) → 2 ≤ length l.stages → HasN
 windows_hold l p two none = record {
   least = λ c k m.
       let inner : k + 1 ≡ last_stage l → ⊥ = λ e. omega (arith, e, m.1) in
-      omega (arith, ints, enough l p c (k + 1) none (m.0, omega (arith, m.1)), arrival_next l p c k, departure_inner l p c (k + 1) inner, least_inner l k inner);
+      omega (
+        arith,
+        ints,
+        enough l p c (k + 1) none (m.0, omega (arith, m.1)),
+        arrival_next l p c k,
+        departure_inner l p c (k + 1) inner,
+        least_inner l k inner,
+      );
   greatest = λ c k m.
       let inner : k + 1 ≡ last_stage l → ⊥ = λ e. omega (arith, e, m.1) in
       IfSome_then (stage l (k + 1)).max (not_too_long l p c (k + 1) none (m.0, omega (arith, m.1)))
@@ -173,7 +189,8 @@ windows_hold l p two none = record {
   unload = λ c lt.
       let e : last_stage l ≡ last_step l + 1 = omega (arith, two) in
       let last : last_stage l ≡ 0 → ⊥ = λ x. omega (arith, x, two) in
-      let come : arrival l p c (last_stage l) ≡ p.start c (last_step l) + duration (motion l p c (last_step l)) = ap (arrival l p c) e ∙ arrival_next l p c (last_step l) in
+      let come : arrival l p c (last_stage l) ≡ p.start c (last_step l) + duration (motion l p c (last_step l)) = ap
+      (arrival l p c) e ∙ arrival_next l p c (last_step l) in
       omega (arith, ints, enough l p c (last_stage l) none (lt, omega (arith, two)), come, departure_last l p c, least_last l last);
 }
 
@@ -199,7 +216,8 @@ routed l d fits valid c k v =
     let e : length l.stages ≡ d.steps + 1 = omega (arith, fits.steps, valid.steps) in
     subst (λ (n : ℕ). Serves l (get_or d.tank (c * n + k) 0) k) e (fits.route.serves c k v)
 
-hoists_there : (l : LineData) (d : TimetableData) → FitsLine l d → IsTimetable d → (c k : ℕ) → IsMove l c k → (timetable_of d).hoist c k < l.hoists
+hoists_there : (l : LineData) (d : TimetableData) → FitsLine l d → IsTimetable d → (c k : ℕ) → IsMove l c k
+    → (timetable_of d).hoist c k < l.hoists
 hoists_there l d fits valid c k m =
     let below : c < length d.put = omega (arith, m.0, fits.put_count) in
     let step : k < d.steps = omega (arith, m.1, fits.steps) in
@@ -212,7 +230,8 @@ hoists_there l d fits valid c k m =
     (λ ge. let le : l.hoists ≤ h = ge in absurd (omega (arith, row, fits.path_count, mul-le-mul_right d.period le, valid.period)))
     (cases_lt h l.hoists)
 
-pub no_fault_is_legal : (l : LineData) (d : TimetableData) → IsLine l → FitsLine l d → IsTimetable d → HasNoFault l (timetable_of d) → IsLegal l (timetable_of d)
+pub no_fault_is_legal : (l : LineData) (d : TimetableData) → IsLine l → FitsLine l d → IsTimetable d
+    → HasNoFault l (timetable_of d) → IsLegal l (timetable_of d)
 no_fault_is_legal l d line fits valid none = record {
   period = valid.period.0;
   routed = routed l d fits valid;
@@ -239,7 +258,8 @@ not_outside l p c k line windows (v, outside) =
     (λ last.
     let e : last_stage l ≡ last_step l + 1 = omega (arith, line.limits.stages) in
     let not_first : last_stage l ≡ 0 → ⊥ = λ x. omega (arith, x, line.limits.stages) in
-    let come : arrival l p c k ≡ p.start c (last_step l) + duration (motion l p c (last_step l)) = ap (arrival l p c) (last ∙ e) ∙ arrival_next l p c (last_step l) in
+    let come : arrival l p c k ≡ p.start c (last_step l) + duration (motion l p c (last_step l)) = ap (arrival l p c)
+    (last ∙ e) ∙ arrival_next l p c (last_step l) in
     let go : departure l p c k ≡ p.off c = ap (departure l p c) last ∙ departure_last l p c in
     let least : least_dwell l k ≡ l.unload = ap (least_dwell l) last ∙ least_last l not_first in
     let no_greatest : (stage l k).max ≡ None = ap (λ (x : ℕ). (stage l x).max) last ∙ line.times.last.no_greatest in

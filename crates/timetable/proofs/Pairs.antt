@@ -57,7 +57,8 @@ number_before_row n i a b lt before = omega (arith, number_before n a b (i / n) 
 abbrev pub ByPair : ℕ → ℕ → ℕ → ℕ → Type 0 → Type 0
 ByPair a b c d Rest = ComesBefore a b c d ⊎ ((a ≡ c) × (b ≡ d) × Rest)
 
-pub by_pair : (a b c d : ℕ) (xs ys : List ℤ) → IsLess (pos a ∷ pos b ∷ xs) (pos c ∷ pos d ∷ ys) → ByPair a b c d (IsLess xs ys)
+pub by_pair : (a b c d : ℕ) (xs ys : List ℤ) → IsLess (pos a ∷ pos b ∷ xs) (pos c ∷ pos d ∷ ys)
+    → ByPair a b c d (IsLess xs ys)
 by_pair a b c d xs ys less =
     ⊎_elim
     (λ lt. inl (inl (omega (arith, ints, lt))))

@@ -13,7 +13,9 @@ use Rattle.timetable.proofs.Pairs.{none_at_all, by_pair, less_differs, number_be
 same2 : (f : ℕ → ℕ → ℤ) (a b a' b' : ℕ) → a ≡ a' → b ≡ b' → f a b ≡ f a' b'
 same2 f a b a' b' p q = ap (λ (x : ℕ). f x b) p ∙ ap (λ (x : ℕ). f a' x) q
 
-dwell_less : (l : LineData) (p : Timetable) (n i : ℕ) (ticks : ℤ) → n ≡ length l.stages → NoneUnder n i (IsOutside l p) → ticks ≡ dwell l p (i / n) (i % n) → (g : Fault) → HasFault l p g → rule_of g ≡ 5 → IsLess (values_of g) (values_of (Dwell (record { carrier = i / n; stage = i % n }) ticks)) → ⊥
+dwell_less : (l : LineData) (p : Timetable) (n i : ℕ) (ticks : ℤ) → n ≡ length l.stages → NoneUnder n i (IsOutside l p)
+    → ticks ≡ dwell l p (i / n) (i % n) → (g : Fault) → HasFault l p g → rule_of g ≡ 5
+    → IsLess (values_of g) (values_of (Dwell (record { carrier = i / n; stage = i % n }) ticks)) → ⊥
 dwell_less l p n i ticks stages none is (Dwell v ticks') has e less =
     let c = v.carrier in
     let k = v.stage in
@@ -26,15 +28,20 @@ dwell_less l p n i ticks stages none is (Dwell v ticks') has e less =
     (by_pair c k (i / n) (i % n) (ticks' ∷ []) (ticks ∷ []) less)
 dwell_less l p n i ticks stages none is _ has e less = absurd (omega (arith, e))
 
-pub dwell_first : (l : LineData) (p : Timetable) (n i : ℕ) (ticks : ℤ) → n ≡ length l.stages → NoneUnder n i (IsOutside l p) → IsOutside l p (i / n) (i % n) → ticks ≡ dwell l p (i / n) (i % n) → IsFirstOf 5 l p (Some (Dwell (record { carrier = i / n; stage = i % n }) ticks))
+pub dwell_first : (l : LineData) (p : Timetable) (n i : ℕ) (ticks : ℤ) → n ≡ length l.stages
+    → NoneUnder n i (IsOutside l p) → IsOutside l p (i / n) (i % n) → ticks ≡ dwell l p (i / n) (i % n)
+    → IsFirstOf 5 l p (Some (Dwell (record { carrier = i / n; stage = i % n }) ticks))
 dwell_first l p n i ticks stages none outside is = ((outside, is), refl, dwell_less l p n i ticks stages none is)
 
-pub dwell_none : (l : LineData) (p : Timetable) (n : ℕ) → n ≡ length l.stages → NoneUnder n (l.degree * n) (IsOutside l p) → (g : Fault) → HasFault l p g → rule_of g ≢ 5
+pub dwell_none : (l : LineData) (p : Timetable) (n : ℕ) → n ≡ length l.stages
+    → NoneUnder n (l.degree * n) (IsOutside l p) → (g : Fault) → HasFault l p g → rule_of g ≢ 5
 dwell_none l p n stages none (Dwell v ticks) has e =
     none_at_all n l.degree (IsOutside l p) none v.carrier v.stage has.0.0.0 (omega (arith, stages, has.0.0.1)) has.0
 dwell_none l p n stages none _ has e = absurd (omega (arith, e))
 
-numbering_less : (l : LineData) (p : Timetable) (c put next : ℕ) → ((b : ℕ) → b < c → IsLate l p b → ⊥) → put ≡ p.put c → next ≡ next_put l p c → (g : Fault) → HasFault l p g → rule_of g ≡ 6 → IsLess (values_of g) (values_of (Numbering c put next)) → ⊥
+numbering_less : (l : LineData) (p : Timetable) (c put next : ℕ) → ((b : ℕ) → b < c → IsLate l p b → ⊥) → put ≡ p.put c
+    → next ≡ next_put l p c → (g : Fault) → HasFault l p g → rule_of g ≡ 6
+    → IsLess (values_of g) (values_of (Numbering c put next)) → ⊥
 numbering_less l p c put next none is is' (Numbering b put' next') has e less =
     ⊎_elim
     (λ lt. none b (omega (arith, ints, lt)) has.0)
@@ -46,5 +53,6 @@ numbering_less l p c put next none is is' (Numbering b put' next') has e less =
     less
 numbering_less l p c put next none is is' _ has e less = absurd (omega (arith, e))
 
-pub numbering_first : (l : LineData) (p : Timetable) (c put next : ℕ) → ((b : ℕ) → b < c → IsLate l p b → ⊥) → IsLate l p c → put ≡ p.put c → next ≡ next_put l p c → IsFirstOf 6 l p (Some (Numbering c put next))
+pub numbering_first : (l : LineData) (p : Timetable) (c put next : ℕ) → ((b : ℕ) → b < c → IsLate l p b → ⊥)
+    → IsLate l p c → put ≡ p.put c → next ≡ next_put l p c → IsFirstOf 6 l p (Some (Numbering c put next))
 numbering_first l p c put next none late is is' = ((late, is, is'), refl, numbering_less l p c put next none is is')

@@ -1,7 +1,8 @@
 -- Stretches of ticks that come again each period.
 use Rattle.std.specs.Prelude.{◌≡◌, ℕ, ◌+◌, ◌*◌, ◌<◌, ◌≤◌, ℤ, pos, ◌-ℤ◌, ◌<ℤ◌, Option, MatchOption}
 
--- copy z of the stretch from `begin` up to and without `end`, and copy z' of that from `begin'` up to and without `end'`, have a tick in common
+-- copy z of the stretch from `begin` up to and without `end`, and copy z' of that from `begin'` up to and without
+-- `end'`, have a tick in common
 abbrev pub CopiesMeet : ℕ → ℕ → ℕ → ℕ → ℕ → ℕ → ℕ → Type 0
 CopiesMeet period begin end begin' end' z z' =
     (t : ℕ) × (begin + z * period ≤ t) × (t < end + z * period) × (begin' + z' * period ≤ t) × (t < end' + z' * period)

@@ -57,7 +57,8 @@ between p h a i none =
     ∙ same_from (position p h (t - 1) + position p h (t + 1)) (2 * position p h t)
     (no_turn (t == p.period) (t == 3 * p.period) (position p h (t - 1) + position p h (t + 1) == 2 * position p h t) none)
 
-pub ways_exact : (p : Timetable) (h a n : ℕ) → ((i : ℕ) → 1 ≤ i → i < n → is_corner p h (a + i) ≡ false) → IsEven (position p h) a n
+pub ways_exact : (p : Timetable) (h a n : ℕ) → ((i : ℕ) → 1 ≤ i → i < n → is_corner p h (a + i) ≡ false)
+    → IsEven (position p h) a n
 ways_exact p h a n none =
     let g = λ (i : ℕ). position p h (a + i) in
     let same : IsStraight g n = λ i lt. between p h a i (none (suc i) (omega arith) lt) in
@@ -87,7 +88,8 @@ shown_place p s turn u =
     ap (λ x. x % period) parts ∙ mod-add-mod s period (u + turn * period) ∙ ap (λ x. x % period) whole
     ∙ add-mul-mod_self_right (s + u) turn period
 
-pub rides_exact : (l : LineData) (p : Timetable) (c k turn u : ℕ) → IsLegal l p → IsMove l c k → u ≤ duration (motion l p c k)
+pub rides_exact : (l : LineData) (p : Timetable) (c k turn u : ℕ) → IsLegal l p → IsMove l c k
+    → u ≤ duration (motion l p c k)
     → (position p (p.hoist c k) (shown p (p.start c k) turn + u) ≡ place (motion l p c k) u) × HasCorners (motion l p c k)
 rides_exact l p c k turn u legal move le = (
   ap (λ x. p.path (p.hoist c k) x) (shown_place p (p.start c k) turn u) ∙ legal.carried.along c k u move le,
@@ -118,7 +120,8 @@ begin_next l p c k =
     (other_number (suc k) 0 (λ z. omega (arith, z)))
     ∙ ap (λ (j : ℕ). p.start c j + duration (motion l p c j) - (stage l (suc k)).lower) e
 
-ordered : (l : LineData) (p : Timetable) (c k : ℕ) → IsLine l → IsLegal l p → IsVisit l c k → hold_begin l p c k ≤ hold_end l p c k
+ordered : (l : LineData) (p : Timetable) (c k : ℕ) → IsLine l → IsLegal l p → IsVisit l c k
+    → hold_begin l p c k ≤ hold_end l p c k
 ordered l p c zero valid legal visit =
     end_by l p c 0 (p.put c) (λ e. omega (arith, e, valid.limits.stages.0))
     (λ n. omega (arith, legal.windows.load c visit.0))

@@ -14,13 +14,14 @@ abbrev pub IsEven : (ℕ → ℕ) → ℕ → ℕ → Type 0
 IsEven at a n =
     (d : ℕ) × (((i : ℕ) → i ≤ n → at (a + i) ≡ at a + i * d) ⊎ ((i : ℕ) → i ≤ n → at (a + i) + i * d ≡ at a))
 
--- from a tick of a way to one before which no corner comes the position changes evenly, so the straight line between goes
--- through the positions at all ticks
+-- from a tick of a way to one before which no corner comes the position changes evenly, so the straight line between
+-- goes through the positions at all ticks
 abbrev pub WaysAreExact : Type 0
 WaysAreExact =
     (p : Timetable) (h a n : ℕ) → ((i : ℕ) → 1 ≤ i → i < n → is_corner p h (a + i) ≡ false) → IsEven (position p h) a n
 
--- the corners of a ride: it stays where it starts while it lifts, then it goes evenly, and then it stays where it comes to
+-- the corners of a ride: it stays where it starts while it lifts, then it goes evenly, and then it stays where it comes
+-- to
 pub record HasCorners (m : Motion) : Type 0 where
   pub lifts : (u : ℕ) → u ≤ m.lift → place m u ≡ m.from
   pub travels : IsEven (place m) m.lift (abs_diff m.from m.to)

@@ -1,5 +1,5 @@
--- The shapes of the time-way diagram, as elements. In the plot a tick is one to the right and a position is one upward, so
--- the numbers of a shape are those of the timetable. The plot begins one period after tick 0 and shows two periods.
+-- The shapes of the time-way diagram, as elements. In the plot a tick is one to the right and a position is one upward,
+-- so the numbers of a shape are those of the timetable. The plot begins one period after tick 0 and shows two periods.
 use Rattle.std.specs.Prelude.{ℕ, ◌+◌, ◌-◌, ◌*◌, ◌%◌, ◌==◌, ◌||◌, not, Bool, cond, List, [], ◌++◌, codes, decimal, length, Option, Some, None}
 use Rattle.std.specs.Int.{abs_diff}
 use Rattle.std.specs.List.{flat_map, range_with_len}

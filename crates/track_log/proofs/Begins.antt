@@ -62,7 +62,8 @@ begin_none l front count h left other bytes total lt e so_far =
 
 -- the end of the line
 pub begins_end : (l : LineData) (front : List (Option ℕ)) (count h left : ℕ) (bytes after : List ℕ) (total : Result (List (Option ℕ) × List ℕ) ℕ)
-    → count ≤ h → word_at end bytes ≡ Ok after → with_front front (at_most left (begins_at l h (count - h) bytes)) ≡ total → total ≡ Ok (front, after)
+    → count ≤ h → word_at end bytes ≡ Ok after
+    → with_front front (at_most left (begins_at l h (count - h) bytes)) ≡ total → total ≡ Ok (front, after)
 unfolding begins_at
 begins_end l front count h left bytes after total le e so_far =
     let k : count - h ≡ 0 = omega arith in
@@ -71,7 +72,8 @@ begins_end l front count h left bytes after total le e so_far =
     sym so_far ∙ one
 
 pub begins_stop : (l : LineData) (stop : Stop) (front : List (Option ℕ)) (count h left : ℕ) (bytes : List ℕ) (total : Result (List (Option ℕ) × List ℕ) ℕ)
-    → count ≤ h → Fails stop (word_at end bytes) → with_front front (at_most left (begins_at l h (count - h) bytes)) ≡ total → Fails (further left stop) total
+    → count ≤ h → Fails stop (word_at end bytes)
+    → with_front front (at_most left (begins_at l h (count - h) bytes)) ≡ total → Fails (further left stop) total
 unfolding begins_at
 begins_stop l stops.Memory front count h left bytes total le e so_far = tt
 begins_stop l (stops.Broken other) front count h left bytes total le e so_far =
@@ -86,7 +88,8 @@ pub flag_is : {A : Type 0} (word : List ℕ) (next : List ℕ → Result (A × L
     → at_most left (flag_at word next bytes) ≡ (at_most most (next rest) >>= λ x. Ok ((flag, x.0), x.1))
 flag_is {A = A} word next bytes rest left most flag e = flag_by (word_at word bytes) e
   where
-    passes : (b : Bool) (k : ℕ) (r : Result (A × List ℕ) ℕ) → at_most {A = (Bool × A) × List ℕ} k (r >>= λ x. Ok ((b, x.0), x.1)) ≡ (at_most k r >>= λ x. Ok ((b, x.0), x.1))
+    passes : (b : Bool) (k : ℕ) (r : Result (A × List ℕ) ℕ) → at_most {A = (Bool × A) × List ℕ} k
+        (r >>= λ x. Ok ((b, x.0), x.1)) ≡ (at_most k r >>= λ x. Ok ((b, x.0), x.1))
     passes b k (Ok x) = refl
     passes b k (Err other) = refl
 
@@ -102,4 +105,5 @@ flag_is {A = A} word next bytes rest left most flag e = flag_by (word_at word by
         let b : false ≡ flag = ap (λ (x : Bool × List ℕ × ℕ). x.0) e in
         let r : bytes ≡ rest = ap (λ (x : Bool × List ℕ × ℕ). x.1) e in
         let m : min left other ≡ most = ap (λ (x : Bool × List ℕ × ℕ). x.2) e in
-        rw (sym b, sym r, sym m) (twice {A = (Bool × A) × List ℕ} left other (next bytes >>= λ x. Ok ((false, x.0), x.1)) ∙ passes false (min left other) (next bytes))
+        rw (sym b, sym r, sym m) (twice {A = (Bool × A) × List ℕ} left other
+        (next bytes >>= λ x. Ok ((false, x.0), x.1)) ∙ passes false (min left other) (next bytes))

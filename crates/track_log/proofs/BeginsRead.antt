@@ -57,7 +57,8 @@ other_front h k t y lt few e =
     omega (arith, one, lt)
 
 -- no begin of a later hoist has the word of hoist h
-later_apart : (h k : ℕ) (xs : List (Option ℕ)) (t y : List ℕ) → h < k → k + length xs < 2 ^ 64 → begins_line k xs ++ t ≡ begin_front h ++ y → ⊥
+later_apart : (h k : ℕ) (xs : List (Option ℕ)) (t y : List ℕ) → h < k → k + length xs < 2 ^ 64
+    → begins_line k xs ++ t ≡ begin_front h ++ y → ⊥
 later_apart h k [] t y lt few e = absurd cc
 later_apart h k (None ∷ xs) t y lt few e = later_apart h (k + 1) xs t y (omega (arith, lt)) (omega (arith, few)) e
 later_apart h k (Some tank ∷ xs) t y lt few e =
@@ -99,7 +100,8 @@ tank_read l bytes few =
     (λ x f. (omega (arith, f.1, few.0), refl)) from
     (number_read 0 (length l.tanks - 1) bytes (omega arith) (omega arith) (omega (arith, few.1)))
   where
-    from : (o : Option ℕ) (t : List ℕ) → Chosen l o → NoDigit t → SameHead (tank_text o ++ t) bytes → (x : ℕ) × InRange 0 (length l.tanks - 1) x × (Some x ≡ o)
+    from : (o : Option ℕ) (t : List ℕ) → Chosen l o → NoDigit t → SameHead (tank_text o ++ t) bytes
+        → (x : ℕ) × InRange 0 (length l.tanks - 1) x × (Some x ≡ o)
     from None t f s head = absurd f
     from (Some tank) t f s head = (tank, (omega arith, omega (arith, f)), refl)
 
@@ -111,7 +113,8 @@ begin_is h bytes =
     (λ a. word_at_append (decimal h) (codes " ") a)
 
 is_choice : (l : LineData) (h n : ℕ) → HasFew l → h + suc n < 2 ^ 64
-    → IsChoice (begin_front h) (λ xs. IsBegins l (suc n) xs × Begins xs) (λ xs. IsBegins l (suc n) xs × Waits xs) (IsBegins l (suc n)) (begins_line h) (after_front h)
+    → IsChoice (begin_front h) (λ xs. IsBegins l (suc n) xs × Begins xs) (λ xs. IsBegins l (suc n) xs × Waits xs)
+    (IsBegins l (suc n)) (begins_line h) (after_front h)
 is_choice l h n few small = record {
   splits = splits;
   with_word = λ xs f. f.0;
@@ -121,19 +124,22 @@ is_choice l h n few small = record {
   some = (Some 0 ∷ nobody n, let f = nobody_fits l n in ((ap suc f.0, (few.0, f.1)), tt));
 }
   where
-    splits : (xs : List (Option ℕ)) → IsBegins l (suc n) xs → (IsBegins l (suc n) xs × Begins xs) ⊎ (IsBegins l (suc n) xs × Waits xs)
+    splits : (xs : List (Option ℕ)) → IsBegins l (suc n) xs
+        → (IsBegins l (suc n) xs × Begins xs) ⊎ (IsBegins l (suc n) xs × Waits xs)
     splits [] f = absurd (omega (arith, f.0))
     splits (None ∷ xs) f = inr (f, tt)
     splits (Some tank ∷ xs) f = inl (f, tt)
 
-    begins : (xs : List (Option ℕ)) → IsBegins l (suc n) xs × Begins xs → begins_line h xs ≡ begin_front h ++ after_front h xs
+    begins : (xs : List (Option ℕ)) → IsBegins l (suc n) xs × Begins xs
+        → begins_line h xs ≡ begin_front h ++ after_front h xs
     begins [] f = absurd f.1
     begins (None ∷ xs) f = absurd f.1
     begins (Some tank ∷ xs) f =
         append_assoc (begin_front h) (decimal tank ++ begins_text (h + 1) xs) end
         ∙ ap (λ (t : List ℕ). begin_front h ++ t) (append_assoc (decimal tank) (begins_text (h + 1) xs) end)
 
-    apart : (xs : List (Option ℕ)) (t y : List ℕ) → IsBegins l (suc n) xs × Waits xs → begins_line h xs ++ t ≡ begin_front h ++ y → ⊥
+    apart : (xs : List (Option ℕ)) (t y : List ℕ) → IsBegins l (suc n) xs × Waits xs
+        → begins_line h xs ++ t ≡ begin_front h ++ y → ⊥
     apart [] t y f e = absurd f.1
     apart (None ∷ xs) t y f e = later_apart h (h + 1) xs t y (omega arith) (omega (arith, small, f.0.0)) e
     apart (Some tank ∷ xs) t y f e = absurd f.1
@@ -150,15 +156,18 @@ is_cons l h n = record {
   completes = λ x f. (nobody n, nobody_fits l n);
 }
   where
-    behind : (x : Option ℕ) (xs : List (Option ℕ)) → IsBegins l (suc n) (x ∷ xs) × Begins (x ∷ xs) → Chosen l x × IsBegins l n xs
+    behind : (x : Option ℕ) (xs : List (Option ℕ)) → IsBegins l (suc n) (x ∷ xs) × Begins (x ∷ xs)
+        → Chosen l x × IsBegins l n xs
     behind None xs f = absurd f.1
     behind (Some tank) xs f = (f.0.1.0, (omega (arith, f.0.0), f.0.1.1))
 
-    whole : (x : Option ℕ) (xs : List (Option ℕ)) → Chosen l x → IsBegins l n xs → IsBegins l (suc n) (x ∷ xs) × Begins (x ∷ xs)
+    whole : (x : Option ℕ) (xs : List (Option ℕ)) → Chosen l x → IsBegins l n xs
+        → IsBegins l (suc n) (x ∷ xs) × Begins (x ∷ xs)
     whole None xs f g = absurd f
     whole (Some tank) xs f g = ((ap suc g.0, (f, g.1)), tt)
 
-pub begins_read : (l : LineData) (h n : ℕ) (bytes : List ℕ) → HasFew l → h + n < 2 ^ 64 → Reads (IsBegins l n) (begins_line h) Any bytes (begins_at l h n bytes)
+pub begins_read : (l : LineData) (h n : ℕ) (bytes : List ℕ) → HasFew l → h + n < 2 ^ 64
+    → Reads (IsBegins l n) (begins_line h) Any bytes (begins_at l h n bytes)
 unfolding begins_at
 begins_read l h zero bytes few small =
     word_reads (IsBegins l 0) (begins_line h) (λ xs. []) Any end bytes (λ rest. Ok ([], rest)) [] (refl, tt)
@@ -172,12 +181,14 @@ begins_read l h (suc n) bytes few small =
     subst (λ (w : Result (List ℕ) ℕ). Reads (IsBegins l (suc n)) (begins_line h) Any bytes (or_at w behind other)) (begin_is h bytes)
     (choice_reads (begin_front h) FY FN (IsBegins l (suc n)) (begins_line h) (after_front h) Any bytes behind other (is_choice l h n few small)
     (λ rest e.
-    cons_items (Chosen l) tank_text NoDigit FY (after_front h) Any (λ x xs. IsBegins l n xs) (begins_line (h + 1)) (Some 0) (is_cons l h n) rest (tank_at l rest)
+    cons_items (Chosen l) tank_text NoDigit FY (after_front h) Any (λ x xs. IsBegins l n xs) (begins_line (h + 1))
+    (Some 0) (is_cons l h n) rest (tank_at l rest)
     (λ x. begins_at l (h + 1) n x.1) (tank_read l rest few) (λ a after f e'. begins_read l (h + 1) n after few (omega (arith, small))))
     (made_reads (IsBegins l n) (begins_line (h + 1)) FN (begins_line h) Any (λ xs. None ∷ xs) bytes (begins_at l (h + 1) n bytes)
     (λ xs f. (((ap suc f.0, (tt, f.1)), tt), refl)) from (begins_read l (h + 1) n bytes few (omega (arith, small)))))
   where
-    from : (xs : List (Option ℕ)) (t : List ℕ) → IsBegins l (suc n) xs × Waits xs → Any t → SameHead (begins_line h xs ++ t) bytes
+    from : (xs : List (Option ℕ)) (t : List ℕ) → IsBegins l (suc n) xs × Waits xs → Any t
+        → SameHead (begins_line h xs ++ t) bytes
         → (ys : List (Option ℕ)) × IsBegins l n ys × (None ∷ ys ≡ xs)
     from [] t f s head = absurd f.1
     from (None ∷ xs) t f s head = (xs, (omega (arith, f.0.0), f.0.1.1), refl)
@@ -195,7 +206,8 @@ no_off h [] t y e = absurd cc
 no_off h (None ∷ xs) t y e = no_off (h + 1) xs t y e
 no_off h (Some tank ∷ xs) t y e = let b : 98 ≡ 111 = ap (λ (l : List ℕ). get_or l 1 0) e in omega (arith, b)
 
-put_no_off : (put : Bool) (xs : List (Option ℕ)) (t y : List ℕ) → (flag_text (codes " put") put ++ begins_line 0 xs) ++ t ≡ codes " off" ++ y → ⊥
+put_no_off : (put : Bool) (xs : List (Option ℕ)) (t y : List ℕ)
+    → (flag_text (codes " put") put ++ begins_line 0 xs) ++ t ≡ codes " off" ++ y → ⊥
 put_no_off true xs t y e = let b : 112 ≡ 111 = ap (λ (l : List ℕ). get_or l 1 0) e in omega (arith, b)
 put_no_off false xs t y e = no_off 0 xs t y e
 

@@ -26,7 +26,8 @@ pub record IsChoice {C : Type 0} (word : List ℕ) (FY FN FC : C → Type 0) (te
   pub some : (c : C) × FY c
 
 -- the same word in front
-in_front : {C : Type 0} (word : List ℕ) (text u : C → List ℕ) (c : C) (t : List ℕ) → text c ≡ word ++ u c → text c ++ t ≡ word ++ (u c ++ t)
+in_front : {C : Type 0} (word : List ℕ) (text u : C → List ℕ) (c : C) (t : List ℕ) → text c ≡ word ++ u c
+    → text c ++ t ≡ word ++ (u c ++ t)
 in_front {C = C} word text u c t e = ap (λ (x : List ℕ). x ++ t) e ∙ append_assoc word (u c) t
 
 -- the word stands there
@@ -78,7 +79,8 @@ word_breaks {C = C} word FY FN FC text u S bytes left is h = record {
 
 -- of two breaks the one that goes on further is that of both kinds
 further_both : {A : Type 0} (FA FB FC : A → Type 0) (text : A → List ℕ) (S : List ℕ → Type 0) (bytes : List ℕ) (l k : ℕ)
-    → ((a : A) → FC a → FA a ⊎ FB a) → ((a : A) → FA a → FC a) → IsBroken FA text S bytes l → IsBroken FB text S bytes k → l ≤ k
+    → ((a : A) → FC a → FA a ⊎ FB a) → ((a : A) → FA a → FC a) → IsBroken FA text S bytes l → IsBroken FB text S bytes k
+    → l ≤ k
     → IsBroken FC text S bytes l
 further_both FA FB FC text S bytes l k splits into first second le =
     let m = cut_again first.front first.back second.front second.back (sym first.is ∙ second.is) (omega (arith, first.left_is, second.left_is)) in
@@ -129,7 +131,8 @@ choice_by : {C : Type 0} (word : List ℕ) (FY FN FC : C → Type 0) (text u : C
     → Reads (λ v. v ≡ word) (λ v. v) Any bytes (w >>= λ rest. Ok (word, rest))
     → ((rest : List ℕ) → bytes ≡ word ++ rest → Reads FY u S rest (behind rest)) → Reads FN text S bytes other
     → Reads FC text S bytes (or_at w behind other)
-choice_by word FY FN FC text u S bytes (Ok rest) behind other is first h none = taken word FY FN FC text u S bytes rest (behind rest) is first.is (h rest first.is)
+choice_by word FY FN FC text u S bytes (Ok rest) behind other is first h none = taken word FY FN FC text u S bytes rest
+    (behind rest) is first.is (h rest first.is)
 choice_by word FY FN FC text u S bytes (Err left) behind other is first h none = other_reads word FY FN FC text u S bytes left other is first none
 
 pub choice_reads : {C : Type 0} (word : List ℕ) (FY FN FC : C → Type 0) (text u : C → List ℕ) (S : List ℕ → Type 0) (bytes : List ℕ)
@@ -142,7 +145,8 @@ choice_reads word FY FN FC text u S bytes behind other is h none =
 -- ---- a word that is there or not, and what comes next
 
 pub flag_reads : {A : Type 0} (word : List ℕ) (F : A → Type 0) (text : A → List ℕ) (S : List ℕ → Type 0) (next : List ℕ → Result (A × List ℕ) ℕ) (nil : A)
-    → F nil → ((a : A) (t y : List ℕ) → F a → text a ++ t ≡ word ++ y → ⊥) → ((bytes : List ℕ) → Reads F text S bytes (next bytes))
+    → F nil → ((a : A) (t y : List ℕ) → F a → text a ++ t ≡ word ++ y → ⊥)
+    → ((bytes : List ℕ) → Reads F text S bytes (next bytes))
     → (bytes : List ℕ) → Reads (λ p. F p.1) (λ p. flag_text word p.0 ++ text p.1) S bytes (flag_at word next bytes)
 flag_reads {A = A} word F text S next nil fits apart reads bytes =
     choice_reads word (λ p. F p.1 × (p.0 ≡ true)) (λ p. F p.1 × (p.0 ≡ false)) (λ p. F p.1) (λ p. flag_text word p.0 ++ text p.1) (λ p. text p.1) S bytes

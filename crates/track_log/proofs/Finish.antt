@@ -53,7 +53,8 @@ unfolding log_at
 word_fails l bytes e h =
     fails_then e (word_at head bytes) (λ a. next_at (places_at l.hoists) (lines_at l 0 most_ticks) a >>= λ x. Ok (log_of x.0, x.1)) h
 
-pub places_fail : (l : LineData) (bytes a : List ℕ) (e : Stop) → word_at head bytes ≡ Ok a → Fails e (places_at l.hoists a) → Fails e (log_at l bytes)
+pub places_fail : (l : LineData) (bytes a : List ℕ) (e : Stop) → word_at head bytes ≡ Ok a
+    → Fails e (places_at l.hoists a) → Fails e (log_at l bytes)
 unfolding log_at
 places_fail l bytes a e is h =
     let rest : Result (LogData × List ℕ) ℕ = next_at (places_at l.hoists) (lines_at l 0 most_ticks) a >>= λ x. Ok (log_of x.0, x.1) in
@@ -62,13 +63,15 @@ places_fail l bytes a e is h =
     (fails_then e (next_at (places_at l.hoists) (lines_at l 0 most_ticks) a) (λ x. Ok (log_of x.0, x.1))
     (fails_then e (places_at l.hoists a) (λ x. lines_at l 0 most_ticks x.1 >>= λ y. Ok ((x.0, y.0), y.1)) h))
 
-pub lines_fail : (l : LineData) (bytes a at b : List ℕ) (e : Stop) → word_at head bytes ≡ Ok a → places_at l.hoists a ≡ Ok (at, b)
+pub lines_fail : (l : LineData) (bytes a at b : List ℕ) (e : Stop) → word_at head bytes ≡ Ok a
+    → places_at l.hoists a ≡ Ok (at, b)
     → Fails e (lines_at l 0 most_ticks b) → Fails e (log_at l bytes)
 lines_fail l bytes a at b e is places h =
     fails_as e (log_at l bytes) (with_places at (lines_at l 0 most_ticks b)) (log_is l bytes a at b is places)
     (fails_then e (lines_at l 0 most_ticks b) (λ x. Ok (log_of (at, x.0), x.1)) h)
 
-pub rest_fails : (l : LineData) (bytes a at b : List ℕ) (e : Stop) → word_at head bytes ≡ Ok a → places_at l.hoists a ≡ Ok (at, b)
+pub rest_fails : (l : LineData) (bytes a at b : List ℕ) (e : Stop) → word_at head bytes ≡ Ok a
+    → places_at l.hoists a ≡ Ok (at, b)
     → Fails e (behind (lines_at l 0 (most_ticks - 0) b)) → Fails e (log_at l bytes)
 rest_fails l bytes a at b e is places h = lines_fail l bytes a at b e is places (by e (lines_at l 0 most_ticks b) h)
   where
@@ -77,17 +80,21 @@ rest_fails l bytes a at b e is places h = lines_fail l bytes a at b e is places 
     by (stops.Broken k) (Ok x) h = absurd cc
     by (stops.Broken k) (Err other) h = let p : other ≡ k = cc in ap (λ (m : ℕ). Err m) p
 
-pub played_out : (l : LineData) (bytes a at b rest : List ℕ) (answer : Followed) → word_at head bytes ≡ Ok a → places_at l.hoists a ≡ Ok (at, b)
+pub played_out : (l : LineData) (bytes a at b rest : List ℕ) (answer : Followed) → word_at head bytes ≡ Ok a
+    → places_at l.hoists a ≡ Ok (at, b)
     → IsPlayedOut l at (lines_at l 0 most_ticks b) answer rest → IsReadOut l (log_at l bytes) answer rest
 played_out l bytes a at b rest answer is places h =
     (log_of (at, h.0), log_is l bytes a at b is places ∙ ap (with_places at) h.1, h.2)
 
 -- positions that aren't spaced
-pub first_departs : (l : LineData) (bytes a at b rest : List ℕ) (breach : Breach) → word_at head bytes ≡ Ok a → places_at l.hoists a ≡ Ok (at, b)
-    → unspaced (layout_of l) (place at) ≡ Some breach → behind (lines_at l 0 (most_ticks - 0) b) ≡ Ok rest → IsReadOut l (log_at l bytes) (Departs 0 breach) rest
+pub first_departs : (l : LineData) (bytes a at b rest : List ℕ) (breach : Breach) → word_at head bytes ≡ Ok a
+    → places_at l.hoists a ≡ Ok (at, b)
+    → unspaced (layout_of l) (place at) ≡ Some breach → behind (lines_at l 0 (most_ticks - 0) b) ≡ Ok rest
+    → IsReadOut l (log_at l bytes) (Departs 0 breach) rest
 first_departs l bytes a at b rest breach is places e f = by (lines_at l 0 most_ticks b) (log_is l bytes a at b is places) f
   where
-    by : (r : Result (List TickLine × List ℕ) ℕ) → log_at l bytes ≡ with_places at r → behind r ≡ Ok rest → IsReadOut l (log_at l bytes) (Departs 0 breach) rest
+    by : (r : Result (List TickLine × List ℕ) ℕ) → log_at l bytes ≡ with_places at r → behind r ≡ Ok rest
+        → IsReadOut l (log_at l bytes) (Departs 0 breach) rest
     by (Ok x) whole h =
         let p : x.1 ≡ rest = cc in
         (log_of (at, x.0), whole ∙ ap (λ (y : List ℕ). Ok (log_of (at, x.0), y)) p, inl (e, refl))
@@ -95,11 +102,13 @@ first_departs l bytes a at b rest breach is places e f = by (lines_at l 0 most_t
 
 -- ---- the bytes as a whole
 
-read_as : (l : LineData) (bytes : List ℕ) (r : Result (LogData × List ℕ) ℕ) → IsLine l → log_at l bytes ≡ r → Reads (IsLog l) log_text Any bytes r
+read_as : (l : LineData) (bytes : List ℕ) (r : Result (LogData × List ℕ) ℕ) → IsLine l → log_at l bytes ≡ r
+    → Reads (IsLog l) log_text Any bytes r
 read_as l bytes r line e = subst (λ (x : Result (LogData × List ℕ) ℕ). Reads (IsLog l) log_text Any bytes x) e (log_read l bytes line)
 
 -- the log whose text the bytes are is the one that was read
-same_log : (l : LineData) (bytes rest : List ℕ) (log other : LogData) → IsLine l → log_at l bytes ≡ Ok (log, rest) → IsTextOf l bytes other
+same_log : (l : LineData) (bytes rest : List ℕ) (log other : LogData) → IsLine l → log_at l bytes ≡ Ok (log, rest)
+    → IsTextOf l bytes other
     → (log ≡ other) × (length rest ≡ 0)
 same_log l bytes rest log other line e h =
     let both : Ok (log, rest) ≡ Ok (other, []) =
@@ -107,7 +116,8 @@ same_log l bytes rest log other line e h =
     let p : (log, rest) ≡ (other, []) = cc in
     (ap (λ (y : LogData × List ℕ). y.0) p, ap (λ (y : LogData × List ℕ). length y.1) p)
 
-pub text_found : (l : LineData) (bytes rest : List ℕ) (answer : Followed) → IsLine l → IsReadOut l (log_at l bytes) answer rest → length rest ≡ 0
+pub text_found : (l : LineData) (bytes rest : List ℕ) (answer : Followed) → IsLine l
+    → IsReadOut l (log_at l bytes) answer rest → length rest ≡ 0
     → IsFollowed l bytes answer
 text_found l bytes rest answer line h none = by answer h.2
   where
@@ -121,25 +131,30 @@ text_found l bytes rest answer line h none = by answer h.2
     by (Departs tick breach) o = (h.0, text, o)
     by (Broken offset) o = absurd o
 
-pub text_only : (l : LineData) (bytes rest : List ℕ) (answer : Followed) (log : LogData) → IsLine l → IsReadOut l (log_at l bytes) answer rest
+pub text_only : (l : LineData) (bytes rest : List ℕ) (answer : Followed) (log : LogData) → IsLine l
+    → IsReadOut l (log_at l bytes) answer rest
     → IsTextOf l bytes log → IsOutcome l log answer
 text_only l bytes rest answer log line h text = subst (λ (x : LogData). IsOutcome l x answer) (same_log l bytes rest h.0 log line h.1 text).0 h.2
 
-pub more_found : (l : LineData) (bytes rest : List ℕ) (answer : Followed) → IsLine l → IsReadOut l (log_at l bytes) answer rest → 0 < length rest
+pub more_found : (l : LineData) (bytes rest : List ℕ) (answer : Followed) → IsLine l
+    → IsReadOut l (log_at l bytes) answer rest → 0 < length rest
     → BreaksAt l bytes (length bytes - length rest)
 more_found l bytes rest answer line h some = more_breaks (IsLog l) log_text bytes h.0 rest (read_as l bytes (Ok (h.0, rest)) line h.1) some
 
-pub no_more : (l : LineData) (bytes rest : List ℕ) (answer : Followed) (log : LogData) → IsLine l → IsReadOut l (log_at l bytes) answer rest
+pub no_more : (l : LineData) (bytes rest : List ℕ) (answer : Followed) (log : LogData) → IsLine l
+    → IsReadOut l (log_at l bytes) answer rest
     → IsTextOf l bytes log → length rest ≡ 0
 no_more l bytes rest answer log line h text = (same_log l bytes rest h.0 log line h.1 text).1
 
-pub break_found : (l : LineData) (bytes : List ℕ) (left : ℕ) → IsLine l → log_at l bytes ≡ Err left → BreaksAt l bytes (length bytes - left)
+pub break_found : (l : LineData) (bytes : List ℕ) (left : ℕ) → IsLine l → log_at l bytes ≡ Err left
+    → BreaksAt l bytes (length bytes - left)
 break_found l bytes left line e = broken_breaks (IsLog l) log_text bytes left (read_as l bytes (Err left) line e)
 
 not_both : (r : Result (LogData × List ℕ) ℕ) (left : ℕ) (x : LogData × List ℕ) → r ≡ Err left → r ≡ Ok x → ⊥
 not_both r left x e f = let both : Err left ≡ Ok x = sym e ∙ f in absurd cc
 
-pub never_broken : (l : LineData) (bytes : List ℕ) (left : ℕ) (log : LogData) → IsLine l → log_at l bytes ≡ Err left → IsTextOf l bytes log → ⊥
+pub never_broken : (l : LineData) (bytes : List ℕ) (left : ℕ) (log : LogData) → IsLine l → log_at l bytes ≡ Err left
+    → IsTextOf l bytes log → ⊥
 never_broken l bytes left log line e h =
     not_both (log_at l bytes) left (log, []) e (whole_read (IsLog l) log_text bytes log (log_at l bytes) h.fits h.text (log_read l bytes line))
 

@@ -48,7 +48,8 @@ stays_in (suc t) = inl refl
 abbrev Letters : ℕ → ℕ → List Go → Type 0
 Letters hoists t xs = (length xs ≡ hoists) × AllFrom (λ h. In (goes t)) 0 xs
 
-letters_read : (hoists t : ℕ) (bytes : List ℕ) → Reads (Letters hoists t) (flat_map go_word) Any bytes (letters_at hoists t bytes)
+letters_read : (hoists t : ℕ) (bytes : List ℕ)
+    → Reads (Letters hoists t) (flat_map go_word) Any bytes (letters_at hoists t bytes)
 letters_read hoists t bytes =
     retext (Letters hoists t) (λ xs. texts_from (λ h. go_word) 0 xs) (flat_map go_word) Any bytes (letters_at hoists t bytes) (λ xs f. texts_are go_word 0 xs)
     (items_read (λ h. In (goes t)) (λ h. go_word) Any (λ h. letter_at t) (λ h. Stay)
@@ -108,7 +109,8 @@ tick_into l t p f = record {
 tick_from : (l : LineData) (t : ℕ) (x : TickLine) → IsTick l t x → FitsParts l t (x.go, (x.off, (x.put, x.begin)))
 tick_from l t x f = ((f.fits.go, goes_from t x.go f.still), (f.fits.begin, recursion_from_All _ x.begin f.fits.tanks))
 
-pub tick_read : (l : LineData) (t : ℕ) (bytes : List ℕ) → HasFew l → Reads (IsTick l t) tick_text Any bytes (tick_at l t bytes)
+pub tick_read : (l : LineData) (t : ℕ) (bytes : List ℕ) → HasFew l
+    → Reads (IsTick l t) tick_text Any bytes (tick_at l t bytes)
 unfolding tick_at
 tick_read l t bytes few =
     made_reads (FitsParts l t) (λ p. flat_map go_word p.0 ++ tail_text p.1) (IsTick l t) tick_text Any tick_of bytes
@@ -130,7 +132,8 @@ lines_text xs = flat_map tick_text xs ++ codes "end\n"
 no_lines : (l : LineData) (t more : ℕ) → 1 ≤ t → IsLines l t more []
 no_lines l t more le = record { few = omega arith; some = λ e. absurd (omega (arith, e, le)); ticks = tt }
 
-end_read : (l : LineData) (t more : ℕ) (bytes : List ℕ) → 1 ≤ t → Reads (λ xs. xs ≡ []) lines_text Any bytes (end_at bytes)
+end_read : (l : LineData) (t more : ℕ) (bytes : List ℕ) → 1 ≤ t
+    → Reads (λ xs. xs ≡ []) lines_text Any bytes (end_at bytes)
 unfolding end_at
 end_read l t more bytes le =
     word_reads (λ xs. xs ≡ []) lines_text (λ xs. []) Any (codes "end\n") bytes (λ rest. Ok ([], rest)) [] refl (λ xs e. ap lines_text e)
@@ -145,13 +148,15 @@ letter_of Stay = (115, refl, inl refl)
 letter_of Low = (108, refl, inr (inl refl))
 letter_of High = (104, refl, inr (inr refl))
 
-letters_head : (go : List Go) (t : List ℕ) → 1 ≤ length go → (b : ℕ) × (rest : List ℕ) × (flat_map go_word go ++ t ≡ b ∷ rest) × IsLetter b
+letters_head : (go : List Go) (t : List ℕ) → 1 ≤ length go
+    → (b : ℕ) × (rest : List ℕ) × (flat_map go_word go ++ t ≡ b ∷ rest) × IsLetter b
 letters_head [] t some = absurd (omega (arith, some))
 letters_head (g ∷ go) t some =
     let w = letter_of g in
     (w.0, flat_map go_word go ++ t, ap (λ (x : List ℕ). x ++ t) (flat_map-cons go_word g go ∙ ap (λ (x : List ℕ). x ++ flat_map go_word go) w.1), w.2)
 
-tick_head : (l : LineData) (t : ℕ) (x : TickLine) (rest bytes : List ℕ) → 1 ≤ l.hoists → IsTick l t x → SameHead (tick_text x ++ rest) bytes → begins 101 bytes ≡ true → ⊥
+tick_head : (l : LineData) (t : ℕ) (x : TickLine) (rest bytes : List ℕ) → 1 ≤ l.hoists → IsTick l t x
+    → SameHead (tick_text x ++ rest) bytes → begins 101 bytes ≡ true → ⊥
 tick_head l t x rest [] line f head e = absurd cc
 tick_head l t x rest (b ∷ bytes) line f head e =
     let tail = tail_text (x.off, (x.put, x.begin)) in
@@ -162,7 +167,8 @@ tick_head l t x rest (b ∷ bytes) line f head e =
     ⊎_elim (λ p. omega (arith, p, same, at)) (λ o. ⊎_elim (λ p. omega (arith, p, same, at)) (λ p. omega (arith, p, same, at)) o) h.3
 
 -- only the end begins so
-ends : (l : LineData) (t more : ℕ) (xs : List TickLine) (rest bytes : List ℕ) → 1 ≤ l.hoists → IsLines l t more xs → SameHead (lines_text xs ++ rest) bytes
+ends : (l : LineData) (t more : ℕ) (xs : List TickLine) (rest bytes : List ℕ) → 1 ≤ l.hoists → IsLines l t more xs
+    → SameHead (lines_text xs ++ rest) bytes
     → begins 101 bytes ≡ true → xs ≡ []
 ends l t more [] rest bytes line f head e = refl
 ends l t more (x ∷ xs) rest bytes line f head e =
@@ -173,7 +179,8 @@ ends l t more (x ∷ xs) rest bytes line f head e =
     absurd (tick_head l t x (past ++ rest) bytes line f.ticks.0 (subst (λ (y : List ℕ). SameHead y bytes) whole head) e)
 
 -- where the bytes don't begin as the end, or it may not come yet, there are lines
-goes_on : (l : LineData) (t more : ℕ) (xs : List TickLine) (rest bytes : List ℕ) → IsLines l t more xs → SameHead (lines_text xs ++ rest) bytes
+goes_on : (l : LineData) (t more : ℕ) (xs : List TickLine) (rest bytes : List ℕ) → IsLines l t more xs
+    → SameHead (lines_text xs ++ rest) bytes
     → (nat_lt 0 t && begins 101 bytes) ≡ false → 1 ≤ length xs
 goes_on l t more (x ∷ xs) rest bytes f head e = omega arith
 goes_on l zero more [] rest bytes f head e = absurd (let n = f.some refl in omega (arith, n))
@@ -198,7 +205,8 @@ some_lines l t more = record {
   completes = λ x f. ([], no_lines l (t + 1) more (omega arith));
 }
 
-lines_by : (l : LineData) (t more : ℕ) (bytes : List ℕ) (ended : Bool) → 1 ≤ l.hoists → (nat_lt 0 t && begins 101 bytes) ≡ ended
+lines_by : (l : LineData) (t more : ℕ) (bytes : List ℕ) (ended : Bool) → 1 ≤ l.hoists
+    → (nat_lt 0 t && begins 101 bytes) ≡ ended
     → Reads (SomeLines l t (suc more)) lines_text Any bytes (tick_at l t bytes >>= λ x. lines_at l (t + 1) more x.1 >>= λ y. Ok (x.0 ∷ y.0, y.1))
     → Reads (IsLines l t (suc more)) lines_text Any bytes
     (cond ended (end_at bytes) (tick_at l t bytes >>= λ x. lines_at l (t + 1) more x.1 >>= λ y. Ok (x.0 ∷ y.0, y.1)))
@@ -252,18 +260,22 @@ IsPlaces l xs = (length xs ≡ l.hoists) × AllByRecursion (λ x. x ≤ most_pos
 position_read : (bytes : List ℕ) → Reads (InRange 0 most_position) position_text NoDigit bytes (position_at bytes)
 unfolding position_at
 position_read bytes =
-    word_reads (InRange 0 most_position) position_text (λ x. decimal x) NoDigit (codes " ") bytes (λ a. number_at 0 most_position a) 0 (omega arith, omega arith)
+    word_reads (InRange 0 most_position) position_text (λ x. decimal x) NoDigit (codes " ") bytes
+    (λ a. number_at 0 most_position a) 0 (omega arith, omega arith)
     (λ x f. refl) (λ a e. number_read 0 most_position a (omega arith) (omega arith) (omega arith))
 
-small_into : (i : ℕ) (xs : List ℕ) → AllFrom (λ h. InRange 0 most_position) i xs → AllByRecursion (λ x. x ≤ most_position) xs
+small_into : (i : ℕ) (xs : List ℕ) → AllFrom (λ h. InRange 0 most_position) i xs
+    → AllByRecursion (λ x. x ≤ most_position) xs
 small_into i [] f = tt
 small_into i (x ∷ xs) f = (f.0.1, small_into (i + 1) xs f.1)
 
-small_from : (i : ℕ) (xs : List ℕ) → AllByRecursion (λ x. x ≤ most_position) xs → AllFrom (λ h. InRange 0 most_position) i xs
+small_from : (i : ℕ) (xs : List ℕ) → AllByRecursion (λ x. x ≤ most_position) xs
+    → AllFrom (λ h. InRange 0 most_position) i xs
 small_from i [] f = tt
 small_from i (x ∷ xs) f = ((omega arith, f.0), small_from (i + 1) xs f.1)
 
-pub places_read : (l : LineData) (bytes : List ℕ) → Reads (IsPlaces l) (λ xs. flat_map position_text xs ++ end) Any bytes (places_at l.hoists bytes)
+pub places_read : (l : LineData) (bytes : List ℕ)
+    → Reads (IsPlaces l) (λ xs. flat_map position_text xs ++ end) Any bytes (places_at l.hoists bytes)
 unfolding places_at
 places_read l bytes =
     let F : List ℕ → Type 0 = λ xs. (length xs ≡ l.hoists) × AllFrom (λ h. InRange 0 most_position) 0 xs in
@@ -284,13 +296,15 @@ first_still : (l : LineData) (xs : List TickLine) → AllFrom (IsTick l) 0 xs �
 first_still l [] f = tt
 first_still l (x ∷ xs) f = f.0.still refl
 
-later_ticks : (l : LineData) (t : ℕ) (xs : List TickLine) → AllByRecursion (FitsTick l) xs → AllFrom (IsTick l) (suc t) xs
+later_ticks : (l : LineData) (t : ℕ) (xs : List TickLine) → AllByRecursion (FitsTick l) xs
+    → AllFrom (IsTick l) (suc t) xs
 later_ticks l t [] f = tt
 later_ticks l t (x ∷ xs) f =
     let next : suc t + 1 ≡ suc (t + 1) = omega arith in
     (record { fits = f.0; still = λ e. absurd (omega (arith, e)) }, subst (λ (n : ℕ). AllFrom (IsTick l) n xs) (sym next) (later_ticks l (t + 1) xs f.1))
 
-ticks_from : (l : LineData) (xs : List TickLine) → AllByRecursion (FitsTick l) xs → AllStay (tick_line xs 0).go → AllFrom (IsTick l) 0 xs
+ticks_from : (l : LineData) (xs : List TickLine) → AllByRecursion (FitsTick l) xs → AllStay (tick_line xs 0).go
+    → AllFrom (IsTick l) 0 xs
 ticks_from l [] f s = tt
 ticks_from l (x ∷ xs) f s =
     let next : 0 + 1 ≡ suc 0 = omega arith in

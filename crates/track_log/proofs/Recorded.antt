@@ -23,7 +23,8 @@ use Rattle.track_log.specs.Recording.{line_to, lines_from, places_of, recorded, 
 -- ---- one order
 
 -- the line of an order that is sized is that of what it commands
-pub line_is : (hoists : ℕ) (o : Order) (c : Command) → IsSizedOrder hoists o → command_of o ≡ c → line_of o ≡ line_to hoists c
+pub line_is : (hoists : ℕ) (o : Order) (c : Command) → IsSizedOrder hoists o → command_of o ≡ c
+    → line_of o ≡ line_to hoists c
 line_is hoists o c sized same =
     let go = fill_by_all (λ h. get_or o.go.items h Stay) o.go.items hoists Stay sized.go (λ k lt. refl) in
     let begin = fill_by_all (λ h. get_or o.begin.items h None) o.begin.items hoists None sized.begin (λ k lt. refl) in
@@ -32,19 +33,23 @@ line_is hoists o c sized same =
     ∙ ap (line_to hoists) same
 
 -- what it commands is commanded of hoists that are there
-pub command_is : (hoists : ℕ) (o : Order) (c : Command) → IsSizedOrder hoists o → command_of o ≡ c → command (line_to hoists c) ≡ c
+pub command_is : (hoists : ℕ) (o : Order) (c : Command) → IsSizedOrder hoists o → command_of o ≡ c
+    → command (line_to hoists c) ≡ c
 command_is hoists o c sized same = ap command (sym (line_is hoists o c sized same)) ∙ same
 
 -- ---- one more of a text
 
-pub one_place : (old text new : List ℕ) (n : ℕ) (at : ℕ → ℕ) → text ≡ old ++ flat_map position_text (places_of n at) → new ≡ text ++ position_text (at n)
+pub one_place : (old text new : List ℕ) (n : ℕ) (at : ℕ → ℕ) → text ≡ old ++ flat_map position_text (places_of n at)
+    → new ≡ text ++ position_text (at n)
     → new ≡ old ++ flat_map position_text (places_of (n + 1) at)
 one_place old text new n at before after =
     after ∙ ap (λ (t : List ℕ). t ++ position_text (at n)) before ∙ flat_map_more position_text old (places_of n at) (at n)
     ∙ ap (λ (xs : List ℕ). old ++ flat_map position_text xs) (sym (map-range_with_len_more at 0 n n (omega arith)))
 
-pub one_line : (old text new : List ℕ) (hoists first n : ℕ) (orders : ℕ → Command) (x : TickLine) → text ≡ old ++ flat_map tick_text (lines_from hoists orders first n)
-    → new ≡ text ++ tick_text x → x ≡ line_to hoists (orders (first + n)) → new ≡ old ++ flat_map tick_text (lines_from hoists orders first (n + 1))
+pub one_line : (old text new : List ℕ) (hoists first n : ℕ) (orders : ℕ → Command) (x : TickLine)
+    → text ≡ old ++ flat_map tick_text (lines_from hoists orders first n)
+    → new ≡ text ++ tick_text x → x ≡ line_to hoists (orders (first + n))
+    → new ≡ old ++ flat_map tick_text (lines_from hoists orders first (n + 1))
 one_line old text new hoists first n orders x before after is =
     let lines = lines_from hoists orders first n in
     let next = line_to hoists (orders (first + n)) in
@@ -68,8 +73,10 @@ no_begin text whole h tanks lt none so =
     ap (begins_text h) (drop_more tanks h None lt) ∙ ap (λ (o : Option ℕ). begins_text h (o ∷ drop (h + 1) tanks)) none in
     ap (λ (t : List ℕ). text ++ t) (sym step) ∙ so
 
-pub one_begin : (text new whole : List ℕ) (h tank : ℕ) (tanks : List (Option ℕ)) → h < length tanks → get_or tanks h None ≡ Some tank
-    → new ≡ text ++ (begin_front h ++ decimal tank) → text ++ begins_text h (drop h tanks) ≡ whole → new ++ begins_text (h + 1) (drop (h + 1) tanks) ≡ whole
+pub one_begin : (text new whole : List ℕ) (h tank : ℕ) (tanks : List (Option ℕ)) → h < length tanks
+    → get_or tanks h None ≡ Some tank
+    → new ≡ text ++ (begin_front h ++ decimal tank) → text ++ begins_text h (drop h tanks) ≡ whole
+    → new ++ begins_text (h + 1) (drop (h + 1) tanks) ≡ whole
 one_begin text new whole h tank tanks lt some after so =
     let rest = begins_text (h + 1) (drop (h + 1) tanks) in
     let step : begins_text h (drop h tanks) ≡ begin_front h ++ (decimal tank ++ rest) =
@@ -77,7 +84,8 @@ one_begin text new whole h tank tanks lt some after so =
     ap (λ (t : List ℕ). t ++ rest) after ∙ append_assoc text (begin_front h ++ decimal tank) rest
     ∙ ap (λ (t : List ℕ). text ++ t) (append_assoc (begin_front h) (decimal tank) rest) ∙ ap (λ (t : List ℕ). text ++ t) (sym step) ∙ so
 
-pub all_begun : (text whole : List ℕ) (h : ℕ) (tanks : List (Option ℕ)) → length tanks ≤ h → text ++ begins_text h (drop h tanks) ≡ whole → text ≡ whole
+pub all_begun : (text whole : List ℕ) (h : ℕ) (tanks : List (Option ℕ)) → length tanks ≤ h
+    → text ++ begins_text h (drop h tanks) ≡ whole → text ≡ whole
 all_begun text whole h tanks past so =
     sym (append-nil text) ∙ ap (λ (xs : List (Option ℕ)). text ++ begins_text h xs) (sym (drop_all h tanks past)) ∙ so
 
@@ -87,9 +95,11 @@ regroup : (a b c d e : List ℕ) → (((a ++ b) ++ c) ++ d) ++ e ≡ a ++ (b ++ 
 regroup a b c d e = simp append_assoc
 
 -- what is written part by part is the text of the log
-pub text_is : (l : LineData) (first last hoists from to : ℕ) (at : ℕ → ℕ) (orders : ℕ → Command) (a b c d e : List ℕ) → hoists ≡ l.hoists → from ≡ first → to ≡ last
+pub text_is : (l : LineData) (first last hoists from to : ℕ) (at : ℕ → ℕ) (orders : ℕ → Command) (a b c d e : List ℕ)
+    → hoists ≡ l.hoists → from ≡ first → to ≡ last
     → a ≡ codes "hoist log 1\nat" → b ≡ a ++ flat_map position_text (places_of hoists at) → c ≡ b ++ end
-    → d ≡ c ++ flat_map tick_text (lines_from hoists orders from (to - from + 1)) → e ≡ d ++ codes "end\n" → e ≡ log_text (recorded l.hoists at orders first last)
+    → d ≡ c ++ flat_map tick_text (lines_from hoists orders from (to - from + 1)) → e ≡ d ++ codes "end\n"
+    → e ≡ log_text (recorded l.hoists at orders first last)
 text_is l first last hoists from to at orders a b c d e count starts ends ia ib ic id ie =
     let head = codes "hoist log 1\nat" in
     let places = flat_map position_text (places_of l.hoists at) in
@@ -102,7 +112,8 @@ text_is l first last hoists from to at orders a b c d e count starts ends ia ib 
     ∙ ap (λ (n : ℕ). flat_map tick_text (lines_from l.hoists orders n (to - n + 1))) starts
     ∙ ap (λ (n : ℕ). flat_map tick_text (lines_from l.hoists orders first (n - first + 1))) ends in
     let three : d ≡ ((head ++ places) ++ end) ++ lines =
-    id ∙ ap (λ (t : List ℕ). t ++ flat_map tick_text (lines_from hoists orders from (to - from + 1))) two ∙ ap (λ (t : List ℕ). ((head ++ places) ++ end) ++ t) all in
+    id ∙ ap (λ (t : List ℕ). t ++ flat_map tick_text (lines_from hoists orders from (to - from + 1))) two
+    ∙ ap (λ (t : List ℕ). ((head ++ places) ++ end) ++ t) all in
     ie ∙ ap (λ (t : List ℕ). t ++ codes "end\n") three ∙ regroup head places end lines (codes "end\n")
 
 -- ---- the log
@@ -113,7 +124,8 @@ all_numbers P a n holds =
     let below : i < n = omega (arith, lt, length-range_with_len a n) in
     subst P (sym (get_or-range_with_len a n i 0 below)) (holds (a + i) (omega arith) (omega (arith, below))))
 
-all_of : {A : Type 0} (P : A → Type 0) (f : ℕ → A) (a n : ℕ) → ((i : ℕ) → a ≤ i → i < a + n → P (f i)) → All P (map f (range_with_len a n))
+all_of : {A : Type 0} (P : A → Type 0) (f : ℕ → A) (a n : ℕ) → ((i : ℕ) → a ≤ i → i < a + n → P (f i))
+    → All P (map f (range_with_len a n))
 all_of {A = A} P f a n holds = All-map P f (range_with_len a n) (all_numbers (λ i. P (f i)) a n holds)
 
 -- the line of tick t of the log
@@ -125,11 +137,14 @@ line_at hoists first last t at orders order le =
 pub place_at : (hoists h : ℕ) (at : ℕ → ℕ) → h < hoists → get_or (places_of hoists at) h 0 ≡ at h
 place_at hoists h at lt = get_or-map-range_with_len at 0 hoists h h 0 lt (omega arith)
 
-pub ticks_are : (hoists first last : ℕ) (at : ℕ → ℕ) (orders : ℕ → Command) → length (recorded hoists at orders first last).ticks ≡ last - first + 1
+pub ticks_are : (hoists first last : ℕ) (at : ℕ → ℕ) (orders : ℕ → Command)
+    → length (recorded hoists at orders first last).ticks ≡ last - first + 1
 ticks_are hoists first last at orders = length-map-range_with_len (λ u. line_to hoists (orders u)) first (last - first + 1)
 
-pub is_log : (l : LineData) (first last : ℕ) (at : ℕ → ℕ) (orders : ℕ → Command) → IsLine l → first ≤ last → last - first < most_ticks → AreApart (layout_of l) at
-    → ((h : ℕ) → h < l.hoists → (orders first).go h ≡ Stay) → BeginsAtTanks l orders first last → IsLog l (recorded l.hoists at orders first last)
+pub is_log : (l : LineData) (first last : ℕ) (at : ℕ → ℕ) (orders : ℕ → Command) → IsLine l → first ≤ last
+    → last - first < most_ticks → AreApart (layout_of l) at
+    → ((h : ℕ) → h < l.hoists → (orders first).go h ≡ Stay) → BeginsAtTanks l orders first last
+    → IsLog l (recorded l.hoists at orders first last)
 is_log l first last at orders line order few apart still tanks =
     let n = l.hoists in
     let ticks = (recorded n at orders first last).ticks in
@@ -144,7 +159,9 @@ is_log l first last at orders line order few apart still tanks =
       ticks = all_of (FitsTick l) (λ t. line_to n (orders t)) first (last - first + 1) (λ t from to. record {
         go = length-map-range_with_len (orders t).go 0 n;
         begin = length-map-range_with_len (orders t).begin 0 n;
-        tanks = all_of (λ b. IfSome b (λ tank. tank < length l.tanks)) (orders t).begin 0 n (λ h a b. tanks t h from (omega (arith, to, order)) (omega (arith, b)));
+        tanks = all_of (λ b. IfSome b (λ tank. tank < length l.tanks)) (orders t).begin 0 n
+            (λ h a b. tanks t h from (omega (arith, to, order)) (omega (arith, b)));
       });
-      still = subst (λ (x : TickLine). All (λ go. go ≡ Stay) x.go) (sym begun) (all_of (λ go. go ≡ Stay) (orders first).go 0 n (λ h a b. still h (omega (arith, b))));
+      still = subst (λ (x : TickLine). All (λ go. go ≡ Stay) x.go) (sym begun)
+          (all_of (λ go. go ≡ Stay) (orders first).go 0 n (λ h a b. still h (omega (arith, b))));
     }

@@ -17,7 +17,8 @@ some_meets : {A : Type 0} (P : A → Type 0) (o : Option A) → ((v : A) → o �
 some_meets {A = A} P None meets = tt
 some_meets {A = A} P (Some v) meets = meets v refl
 
-run_begins : (l : LineData) (p : Timetable) (n first last : ℕ) → IsLine l → IsLegal l p → BeginsAtTanks l (order_into l p n) first last
+run_begins : (l : LineData) (p : Timetable) (n first last : ℕ) → IsLine l → IsLegal l p
+    → BeginsAtTanks l (order_into l p n) first last
 run_begins l p n first last line legal t h from to lt =
     let run = run_is l p n line legal in
     some_meets (λ tank. tank < length l.tanks) ((order_into l p n t).begin h) (λ v e.

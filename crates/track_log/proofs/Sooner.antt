@@ -22,13 +22,15 @@ abbrev counted : ℕ → Result Reached Stop → Result Reached Stop
 counted first (Ok r) = Ok (record { frame = r.frame; log = map (sooner first) r.log })
 counted first (Err s) = Err (record { tick = s.tick - first; breach = s.breach })
 
-events_sooner : (first t : ℕ) (whats : List What) → map (at_tick t) whats ≡ map (sooner first) (map (at_tick (first + t)) whats)
+events_sooner : (first t : ℕ) (whats : List What)
+    → map (at_tick t) whats ≡ map (sooner first) (map (at_tick (first + t)) whats)
 events_sooner first t [] = refl
 events_sooner first t (w ∷ whats) =
     let e : t ≡ first + t - first = omega arith in
     ap (λ (n : ℕ). at_tick n w ∷ map (at_tick t) whats) e ∙ ap (λ (es : List Event). at_tick (first + t - first) w ∷ es) (events_sooner first t whats)
 
-next_counted : (l : Layout) (first t : ℕ) (o : Command) (x : Result Reached Stop) → next_step l t o (counted first x) ≡ counted first (next_step l (first + t) o x)
+next_counted : (l : Layout) (first t : ℕ) (o : Command) (x : Result Reached Stop)
+    → next_step l t o (counted first x) ≡ counted first (next_step l (first + t) o x)
 next_counted l first t o (Err s) = refl
 next_counted l first t o (Ok r) = by (step l o r.frame)
   where
@@ -38,7 +40,8 @@ next_counted l first t o (Ok r) = by (step l o r.frame)
         ap (λ (es : List Event). Ok (record { frame = g; log = map (sooner first) r.log ++ es })) (events_sooner first t (whats_of l o r.frame g))
         ∙ ap (λ (es : List Event). Ok (record { frame = g; log = es })) (sym (map-append (sooner first) r.log (events_of l (first + t) o r.frame g)))
 
-steps_counted : (l : Layout) (orders late : ℕ → Command) (first n : ℕ) (r : Reached) → ((t : ℕ) → t ≤ n → orders t ≡ late (first + t))
+steps_counted : (l : Layout) (orders late : ℕ → Command) (first n : ℕ) (r : Reached)
+    → ((t : ℕ) → t ≤ n → orders t ≡ late (first + t))
     → steps l orders 0 (record { frame = r.frame; log = map (sooner first) r.log }) n ≡ counted first (steps l late first r n)
 steps_counted l orders late first zero r same =
     let e : first + 0 ≡ first = omega arith in
@@ -69,7 +72,8 @@ played_counted l first last at orders order there =
     ∙ ap (λ (f : Scene). steps (layout_of l) (commands log.ticks) 0 (record { frame = f; log = [] }) (last - first)) here
     ∙ steps_counted (layout_of l) (commands log.ticks) orders first (last - first) (record { frame = empty_scene (layout_of l) at; log = [] }) same
 
-pub goes_as : (l : LineData) (first last : ℕ) (at : ℕ → ℕ) (orders : ℕ → Command) → first ≤ last → AreApart (layout_of l) at
+pub goes_as : (l : LineData) (first last : ℕ) (at : ℕ → ℕ) (orders : ℕ → Command) → first ≤ last
+    → AreApart (layout_of l) at
     → ((t : ℕ) → first ≤ t → t ≤ last → command (line_to l.hoists (orders t)) ≡ orders t)
     → GoesAs l (recorded l.hoists at orders first last) first last (run (layout_of l) at orders first last)
 goes_as l first last at orders order apart there =
@@ -87,6 +91,7 @@ goes_as l first last at orders order apart there =
           (subst (λ (x : ℕ). at h + l.gap ≤ x) (sym (place_at n (h + 1) at lt)) (apart.gap h lt));
     })
 
-    by : (x : Result Reached Stop) → played l (recorded n at orders first last) ≡ counted first x → GoesAs l (recorded n at orders first last) first last x
+    by : (x : Result Reached Stop) → played l (recorded n at orders first last) ≡ counted first x
+        → GoesAs l (recorded n at orders first last) first last x
     by (Ok r) e = record { spaced = spaced; last_is = (let count = ticks_are n first last at orders in omega (arith, count)); end = e }
     by (Err s) e = inr (spaced, e)

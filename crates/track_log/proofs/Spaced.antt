@@ -58,12 +58,14 @@ read_fits {A = A} F text bytes r a rest h e =
     let read : IsRead F text Any bytes a rest = subst (λ (x : Result (A × List ℕ) ℕ). Reads F text Any bytes x) e h in
     read.fits
 
-pub places_fit : (l : LineData) (bytes at rest : List ℕ) → places_at l.hoists bytes ≡ Ok (at, rest) → (length at ≡ l.hoists) × All (λ x. x ≤ most_position) at
+pub places_fit : (l : LineData) (bytes at rest : List ℕ) → places_at l.hoists bytes ≡ Ok (at, rest)
+    → (length at ≡ l.hoists) × All (λ x. x ≤ most_position) at
 places_fit l bytes at rest e =
     let f = read_fits (IsPlaces l) _ bytes (places_at l.hoists bytes) at rest (places_read l bytes) e in
     (f.0, All-from_recursion _ at f.1)
 
-pub order_fits : (l : LineData) (t : ℕ) (bytes rest : List ℕ) (order : Order) → HasFew l → tick_at l t bytes ≡ Ok (line_of order, rest) → IsSizedOrder l.hoists order
+pub order_fits : (l : LineData) (t : ℕ) (bytes rest : List ℕ) (order : Order) → HasFew l
+    → tick_at l t bytes ≡ Ok (line_of order, rest) → IsSizedOrder l.hoists order
 order_fits l t bytes rest order few e =
     let f = read_fits (IsTick l t) tick_text bytes (tick_at l t bytes) (line_of order) rest (tick_read l t bytes few) e in
     record { go = f.fits.go; begin = f.fits.begin }

@@ -40,7 +40,8 @@ pub line_next : (l : LineData) (t : ℕ) (bytes : List ℕ) → t < most_ticks �
 unfolding lines_at
 line_next l t bytes lt ahead = let k : most_ticks - t ≡ suc (most_ticks - (t + 1)) = omega (arith, lt) in rw (k, ahead) refl
 
-pub line_ends : (l : LineData) (t : ℕ) (bytes : List ℕ) → (is_end t bytes ≡ true) ⊎ (most_ticks ≤ t) → lines_at l t (most_ticks - t) bytes ≡ end_at bytes
+pub line_ends : (l : LineData) (t : ℕ) (bytes : List ℕ) → (is_end t bytes ≡ true) ⊎ (most_ticks ≤ t)
+    → lines_at l t (most_ticks - t) bytes ≡ end_at bytes
 unfolding lines_at
 line_ends l t bytes ends = by (most_ticks - t) refl
   where
@@ -49,8 +50,10 @@ line_ends l t bytes ends = by (most_ticks - t) refl
     by (suc more) e = ⊎_elim (λ yes. rw yes refl) (λ past. absurd (omega (arith, past, e))) ends
 
 -- the same, where only the bytes behind the lines are looked at
-pub behind_next : (l : LineData) (t : ℕ) (bytes : List ℕ) (o : TickLine) (after : List ℕ) (total : Result (List ℕ) ℕ) → t < most_ticks → is_end t bytes ≡ false
-    → tick_at l t bytes ≡ Ok (o, after) → behind (lines_at l t (most_ticks - t) bytes) ≡ total → behind (lines_at l (t + 1) (most_ticks - (t + 1)) after) ≡ total
+pub behind_next : (l : LineData) (t : ℕ) (bytes : List ℕ) (o : TickLine) (after : List ℕ) (total : Result (List ℕ) ℕ)
+    → t < most_ticks → is_end t bytes ≡ false
+    → tick_at l t bytes ≡ Ok (o, after) → behind (lines_at l t (most_ticks - t) bytes) ≡ total
+    → behind (lines_at l (t + 1) (most_ticks - (t + 1)) after) ≡ total
 behind_next l t bytes o after total lt ahead e so_far =
     let next = lines_at l (t + 1) (most_ticks - (t + 1)) after in
     let one : lines_at l t (most_ticks - t) bytes ≡ cons o next = line_next l t bytes lt ahead ∙ rw e refl in
@@ -60,7 +63,8 @@ behind_next l t bytes o after total lt ahead e so_far =
     same (Ok x) = refl
     same (Err left) = refl
 
-pub behind_breaks : (l : LineData) (t : ℕ) (bytes : List ℕ) (e : Stop) (total : Result (List ℕ) ℕ) → t < most_ticks → is_end t bytes ≡ false
+pub behind_breaks : (l : LineData) (t : ℕ) (bytes : List ℕ) (e : Stop) (total : Result (List ℕ) ℕ) → t < most_ticks
+    → is_end t bytes ≡ false
     → Fails e (tick_at l t bytes) → behind (lines_at l t (most_ticks - t) bytes) ≡ total → Fails e total
 behind_breaks l t bytes e total lt ahead fails so_far =
     let one = line_next l t bytes lt ahead in
@@ -76,7 +80,8 @@ end_behind bytes = by (word_at (codes "end\n") bytes)
     by (Ok rest) = refl
     by (Err left) = refl
 
-pub behind_ends : (l : LineData) (t : ℕ) (bytes : List ℕ) (total : Result (List ℕ) ℕ) → (is_end t bytes ≡ true) ⊎ (most_ticks ≤ t)
+pub behind_ends : (l : LineData) (t : ℕ) (bytes : List ℕ) (total : Result (List ℕ) ℕ)
+    → (is_end t bytes ≡ true) ⊎ (most_ticks ≤ t)
     → behind (lines_at l t (most_ticks - t) bytes) ≡ total → total ≡ word_at (codes "end\n") bytes
 behind_ends l t bytes total ends so_far = sym so_far ∙ ap behind (line_ends l t bytes ends) ∙ end_behind bytes
 
@@ -96,7 +101,8 @@ pub record Walked (l : LineData) (at : List ℕ) (total : Result (List TickLine 
   pub read : with_front ticks (lines_at l n (most_ticks - n) rest) ≡ total
   pub reached : done (layout_of l) (commands ticks) 0 (start l at) n ≡ Ok (record { frame = f; log = events })
 
-pub walk_starts : (l : LineData) (at bytes : List ℕ) (f : Scene) → f ≡ empty_scene (layout_of l) (place at) → Walked l at (lines_at l 0 most_ticks bytes) 0 bytes f
+pub walk_starts : (l : LineData) (at bytes : List ℕ) (f : Scene) → f ≡ empty_scene (layout_of l) (place at)
+    → Walked l at (lines_at l 0 most_ticks bytes) 0 bytes f
 walk_starts l at bytes f e = record {
   ticks = [];
   events = [];
@@ -106,27 +112,33 @@ walk_starts l at bytes f e = record {
 }
 
 -- orders that agree before tick n lead as far
-done_same : (l : Layout) (f g : ℕ → Command) (r : Reached) (n : ℕ) → ((t : ℕ) → t < n → f t ≡ g t) → done l f 0 r n ≡ done l g 0 r n
+done_same : (l : Layout) (f g : ℕ → Command) (r : Reached) (n : ℕ) → ((t : ℕ) → t < n → f t ≡ g t)
+    → done l f 0 r n ≡ done l g 0 r n
 done_same l f g r zero same = refl
 done_same l f g r (suc n) same =
     let here : f (0 + n) ≡ g (0 + n) = let e : 0 + n ≡ n = omega arith in ap f e ∙ same n (omega arith) ∙ sym (ap g e) in
-    ap (λ (o : Command). next_step l (0 + n) o (done l f 0 r n)) here ∙ ap (next_step l (0 + n) (g (0 + n))) (done_same l f g r n (λ t lt. same t (omega (arith, lt))))
+    ap (λ (o : Command). next_step l (0 + n) o (done l f 0 r n)) here
+    ∙ ap (next_step l (0 + n) (g (0 + n))) (done_same l f g r n (λ t lt. same t (omega (arith, lt))))
 
 commands_front : (xs ys : List TickLine) (t : ℕ) → t < length xs → commands (xs ++ ys) t ≡ commands xs t
 commands_front xs ys t lt = ap command (get_or_append_left xs ys idle t lt)
 
-commands_next : (xs : List TickLine) (o : TickLine) (ys : List TickLine) → commands ((xs ++ o ∷ []) ++ ys) (length xs) ≡ command o
+commands_next : (xs : List TickLine) (o : TickLine) (ys : List TickLine)
+    → commands ((xs ++ o ∷ []) ++ ys) (length xs) ≡ command o
 commands_next xs o ys =
     let inside : length xs < length (xs ++ o ∷ []) = omega (arith, length-append xs (o ∷ [])) in
     commands_front (xs ++ o ∷ []) ys (length xs) inside ∙ ap command (get_or_push xs o idle (length xs) refl)
 
-regroup : (front : List TickLine) (o : TickLine) (r : Result (List TickLine × List ℕ) ℕ) → with_front front (cons o r) ≡ with_front (front ++ o ∷ []) r
+regroup : (front : List TickLine) (o : TickLine) (r : Result (List TickLine × List ℕ) ℕ)
+    → with_front front (cons o r) ≡ with_front (front ++ o ∷ []) r
 regroup front o (Ok x) = ap (λ (xs : List TickLine). Ok (xs, x.1)) (simp append_assoc)
 regroup front o (Err left) = refl
 
 -- one line more is read
-read_more : (l : LineData) (front : List TickLine) (n : ℕ) (rest : List ℕ) (o : TickLine) (after : List ℕ) (total : Result (List TickLine × List ℕ) ℕ) → n < most_ticks
-    → is_end n rest ≡ false → tick_at l n rest ≡ Ok (o, after) → with_front front (lines_at l n (most_ticks - n) rest) ≡ total
+read_more : (l : LineData) (front : List TickLine) (n : ℕ) (rest : List ℕ) (o : TickLine) (after : List ℕ) (total : Result (List TickLine × List ℕ) ℕ)
+    → n < most_ticks
+    → is_end n rest ≡ false → tick_at l n rest ≡ Ok (o, after)
+    → with_front front (lines_at l n (most_ticks - n) rest) ≡ total
     → with_front (front ++ o ∷ []) (lines_at l (n + 1) (most_ticks - (n + 1)) after) ≡ total
 read_more l front n rest o after total lt ahead e so_far =
     let next = lines_at l (n + 1) (most_ticks - (n + 1)) after in
@@ -135,7 +147,8 @@ read_more l front n rest o after total lt ahead e so_far =
 
 -- and a step is made
 pub walk_more : (l : LineData) (at : List ℕ) (total : Result (List TickLine × List ℕ) ℕ) (n : ℕ) (rest : List ℕ) (f g : Scene) (o : TickLine) (after : List ℕ)
-    → Walked l at total n rest f → n < most_ticks → is_end n rest ≡ false → tick_at l n rest ≡ Ok (o, after) → Ok g ≡ step (layout_of l) (command o) f
+    → Walked l at total n rest f → n < most_ticks → is_end n rest ≡ false → tick_at l n rest ≡ Ok (o, after)
+    → Ok g ≡ step (layout_of l) (command o) f
     → Walked l at total (n + 1) after g
 walk_more l at total n rest f g o after w lt ahead e made =
     let m = layout_of l in
@@ -143,7 +156,8 @@ walk_more l at total n rest f g o after w lt ahead e made =
     let before : done m orders 0 (start l at) n ≡ Ok (record { frame = f; log = w.events }) =
     done_same m orders (commands w.ticks) (start l at) n (λ t less. commands_front w.ticks (o ∷ []) t (omega (arith, w.count, less))) ∙ w.reached in
     let here : orders n ≡ command o =
-    ap (λ (xs : List TickLine). commands xs n) (sym (append-nil (w.ticks ++ o ∷ []))) ∙ ap (commands ((w.ticks ++ o ∷ []) ++ [])) (sym w.count) ∙ commands_next w.ticks o [] in
+    ap (λ (xs : List TickLine). commands xs n) (sym (append-nil (w.ticks ++ o ∷ [])))
+    ∙ ap (commands ((w.ticks ++ o ∷ []) ++ [])) (sym w.count) ∙ commands_next w.ticks o [] in
     let events = w.events ++ events_of m n (command o) f g in
     let next : next_step m n (orders n) (Ok (record { frame = f; log = w.events })) ≡ Ok (record { frame = g; log = events }) =
     ap (λ (c : Command). next_step m n c (Ok (record { frame = f; log = w.events }))) here
@@ -163,8 +177,10 @@ walk_more l at total n rest f g o after w lt ahead e made =
 -- or none
 pub walk_departs : (l : LineData) (at : List ℕ) (total : Result (List TickLine × List ℕ) ℕ) (n : ℕ) (rest : List ℕ) (f : Scene) (o : TickLine) (after : List ℕ)
     (breach : Breach) (left : List ℕ) → unspaced (layout_of l) (place at) ≡ None
-    → Walked l at total n rest f → n < most_ticks → is_end n rest ≡ false → tick_at l n rest ≡ Ok (o, after) → Err breach ≡ step (layout_of l) (command o) f
-    → behind (lines_at l (n + 1) (most_ticks - (n + 1)) after) ≡ Ok left → IsPlayedOut l at total (Departs n breach) left
+    → Walked l at total n rest f → n < most_ticks → is_end n rest ≡ false → tick_at l n rest ≡ Ok (o, after)
+    → Err breach ≡ step (layout_of l) (command o) f
+    → behind (lines_at l (n + 1) (most_ticks - (n + 1)) after) ≡ Ok left
+    → IsPlayedOut l at total (Departs n breach) left
 walk_departs l at total n rest f o after breach left spaced w lt ahead e made others =
     out (lines_at l (n + 1) (most_ticks - (n + 1)) after) others (read_more l w.ticks n rest o after total lt ahead e w.read)
   where
@@ -193,13 +209,15 @@ walk_departs l at total n rest f o after breach left spaced w lt ahead e made ot
 
 -- the end
 pub walk_ends : (l : LineData) (at : List ℕ) (total : Result (List TickLine × List ℕ) ℕ) (n last : ℕ) (rest left : List ℕ) (end : Frame)
-    → unspaced (layout_of l) (place at) ≡ None → Walked l at total n rest (scene_of end) → (is_end n rest ≡ true) ⊎ (most_ticks ≤ n) → last + 1 ≡ n
+    → unspaced (layout_of l) (place at) ≡ None → Walked l at total n rest (scene_of end)
+    → (is_end n rest ≡ true) ⊎ (most_ticks ≤ n) → last + 1 ≡ n
     → word_at (codes "end\n") rest ≡ Ok left → IsPlayedOut l at total (Follows last end) left
 unfolding end_at
 walk_ends l at total n last rest left end spaced w ends count e =
     let m = layout_of l in
     let orders = commands w.ticks in
-    let lines : lines_at l n (most_ticks - n) rest ≡ Ok ([], left) = line_ends l n rest ends ∙ ap (λ (r : Result (List ℕ) ℕ). r >>= λ after. Ok ([], after)) e in
+    let lines : lines_at l n (most_ticks - n) rest ≡ Ok ([], left) = line_ends l n rest ends
+    ∙ ap (λ (r : Result (List ℕ) ℕ). r >>= λ after. Ok ([], after)) e in
     let read : total ≡ Ok (w.ticks, left) =
     sym w.read ∙ ap (with_front w.ticks) lines ∙ ap (λ (xs : List TickLine). Ok (xs, left)) (append-nil w.ticks) in
     let last_is : last ≡ last_of w.ticks = omega (arith, w.count, count) in
@@ -219,7 +237,8 @@ walk_breaks l at total n rest f e w lt ahead fails =
     (fails_then e (tick_at l n rest) (λ x. cons x.0 (lines_at l (n + 1) (most_ticks - (n + 1)) x.1)) fails))
 
 pub walk_stops : (l : LineData) (at : List ℕ) (total : Result (List TickLine × List ℕ) ℕ) (n : ℕ) (rest : List ℕ) (f : Scene) (e : Stop)
-    → Walked l at total n rest f → (is_end n rest ≡ true) ⊎ (most_ticks ≤ n) → Fails e (word_at (codes "end\n") rest) → Fails e total
+    → Walked l at total n rest f → (is_end n rest ≡ true) ⊎ (most_ticks ≤ n) → Fails e (word_at (codes "end\n") rest)
+    → Fails e total
 unfolding end_at
 walk_stops l at total n rest f e w ends fails =
     fails_as e total (with_front w.ticks (word_at (codes "end\n") rest >>= λ left. Ok ([], left)))
@@ -234,7 +253,8 @@ walk_fails l at total n rest f o after e w lt ahead read fails =
     let next = lines_at l (n + 1) (most_ticks - (n + 1)) after in
     fails_as e total (with_front (w.ticks ++ o ∷ []) next) (sym (read_more l w.ticks n rest o after total lt ahead read w.read)) (by e next fails)
   where
-    by : (s : Stop) (r : Result (List TickLine × List ℕ) ℕ) → Fails s (behind r) → Fails s (with_front (w.ticks ++ o ∷ []) r)
+    by : (s : Stop) (r : Result (List TickLine × List ℕ) ℕ) → Fails s (behind r)
+        → Fails s (with_front (w.ticks ++ o ∷ []) r)
     by stops.Memory r h = tt
     by (stops.Broken k) (Ok x) h = absurd cc
     by (stops.Broken k) (Err other) h = let p : other ≡ k = cc in ap (λ (m : ℕ). Err m) p

@@ -24,7 +24,8 @@ lines_from hoists orders first ticks = map (λ t. line_to hoists (orders t)) (ra
 abbrev pub places_of : ℕ → (ℕ → ℕ) → List ℕ
 places_of hoists at = map at (range_with_len 0 hoists)
 
--- where each hoist is at the tick `first`, and the orders into the ticks from `first` to `last`: tick 0 of the log is `first`
+-- where each hoist is at the tick `first`, and the orders into the ticks from `first` to `last`: tick 0 of the log is
+-- `first`
 abbrev pub recorded : ℕ → (ℕ → ℕ) → (ℕ → Command) → ℕ → ℕ → LogData
 recorded hoists at orders first last =
     record { at = places_of hoists at; ticks = lines_from hoists orders first (last - first + 1) }
@@ -42,8 +43,8 @@ BeginsAtTanks l orders first last =
 abbrev pub sooner : ℕ → Event → Event
 sooner first e = record { tick = e.tick - first; what = e.what }
 
--- the log goes as a run from the tick `first` to the tick `last` does, but that its ticks count from `first` on: it is followed to
--- its last tick, with the frame and the events of the run, or departs by the breach of the run
+-- the log goes as a run from the tick `first` to the tick `last` does, but that its ticks count from `first` on: it is
+-- followed to its last tick, with the frame and the events of the run, or departs by the breach of the run
 abbrev pub GoesAs : LineData → LogData → ℕ → ℕ → Result Reached Stop → Type 0
 GoesAs l log first last (Ok r) = FollowsTo l log (last - first) (record { frame = r.frame; log = map (sooner first) r.log })
 GoesAs l log first last (Err s) = DepartsAt l log (s.tick - first) s.breach

@@ -78,13 +78,15 @@ pub record Joins (l : LineData) (a : Arc) : Type 0 where
   pub q : (pos 0 ≤ℤ a.q) × (a.q ≤ℤ pos 1)
 
 -- the starts of a legal timetable are near
-near : (l : LineData) (path : List Decision) (p : Timetable) (c k c' k' : ℕ) → IsLine l → IsLegal l p → IsChosen l p path → p.period ≤ 20000 → IsMove l c k
+near : (l : LineData) (path : List Decision) (p : Timetable) (c k c' k' : ℕ) → IsLine l → IsLegal l p
+    → IsChosen l p path → p.period ≤ 20000 → IsMove l c k
     → IsMove l c' k' → ticks_of l p (move_number l c k) ≤ℤ (ticks_of l p (move_number l c' k') +ℤ pos 702000)
 near l path p c k c' k' line legal chosen few move move' =
     let keeps = (cover l path p line chosen.fits legal chosen.meets).constraints in
     omega (arith, ints, spread l path (ticks_of l p) p.period c k c' k' line keeps move move', few)
 
-joined_fits : (l : LineData) (path : List Decision) (p : Timetable) (a : Arc) → IsLine l → IsLegal l p → IsChosen l p path → p.period ≤ 20000
+joined_fits : (l : LineData) (path : List Decision) (p : Timetable) (a : Arc) → IsLine l → IsLegal l p
+    → IsChosen l p path → p.period ≤ 20000
     → Keeps (ticks_of l p) 0 a → Joins l a → IsMarginArc l a
 joined_fits l path p a line legal chosen few kept j =
     let t = ticks_of l p in
@@ -92,12 +94,14 @@ joined_fits l path p a line legal chosen few kept j =
     record {
       from = omega (arith, j.from, there j.c j.k j.first);
       to = omega (arith, j.to, there j.c' j.k' j.second);
-      w = small (t a.from) (t a.to) (t (move_number l j.c j.k)) (t (move_number l j.c' j.k')) a.w (a.q *ℤ pos 0) (ap t j.from) (ap t j.to) (omega (arith, ints)) kept
+      w = small (t a.from) (t a.to) (t (move_number l j.c j.k)) (t (move_number l j.c' j.k')) a.w (a.q *ℤ pos 0)
+          (ap t j.from) (ap t j.to) (omega (arith, ints)) kept
           (near l path p j.c' j.k' j.c j.k line legal chosen few j.second j.first) j.low;
       q = j.q;
     }
   where
-    small : (s s' x y w none : ℤ) → s ≡ x → s' ≡ y → none ≡ pos 0 → (s +ℤ (w +ℤ none)) ≤ℤ s' → y ≤ℤ (x +ℤ pos 702000) → negsuc 899999 ≤ℤ w → unsigned_abs w ≤ 9000000
+    small : (s s' x y w none : ℤ) → s ≡ x → s' ≡ y → none ≡ pos 0 → (s +ℤ (w +ℤ none)) ≤ℤ s' → y ≤ℤ (x +ℤ pos 702000)
+        → negsuc 899999 ≤ℤ w → unsigned_abs w ≤ 9000000
     small s s' x y w none e f n kept le low = omega (arith, ints, e, f, n, kept, le, low)
 
 -- ---- those that stand on every path
@@ -112,7 +116,8 @@ max_small l k line some few =
     least_or None m h = omega arith
     least_or (Some x) m h = h.1
 
-undecided_joins : (l : LineData) (path : List Decision) (n : ℕ) (t : Constraint) → IsLine l → n ≤ 20000 → IsUndecided t → IsConstraint l path t
+undecided_joins : (l : LineData) (path : List Decision) (n : ℕ) (t : Constraint) → IsLine l → n ≤ 20000 → IsUndecided t
+    → IsConstraint l path t
     → Joins l (at_period n (share_of t) (arc_of l path t))
 undecided_joins l path n (Min c k) line few u is = record {
   c = c;
@@ -228,7 +233,8 @@ undecided_joins l path n (Decided i) line few u is = absurd u
 
 -- ---- those of orders
 
-begin_small : (l : LineData) (d : ℕ → ℕ → ℕ) (v : VisitId) → IsLine l → IsVisit l v.carrier v.stage → ((c k : ℕ) → IsMove l c k → d c k ≤ 2000)
+begin_small : (l : LineData) (d : ℕ → ℕ → ℕ) (v : VisitId) → IsLine l → IsVisit l v.carrier v.stage
+    → ((c k : ℕ) → IsMove l c k → d c k ≤ 2000)
     → unsigned_abs (begin_of l d v.carrier v.stage).fixed ≤ 22000
 begin_small l d v line visit short =
     let c = v.carrier in
@@ -244,7 +250,8 @@ begin_small l d v line visit short =
     subst P (sym (ne_eqb k 0 ne)) (omega (arith, ints, short c (k - 1) (visit.0, step), lower)))
     (cases_eq k 0)
 
-end_small : (l : LineData) (d : ℕ → ℕ → ℕ) (v : VisitId) → IsLine l → IsVisit l v.carrier v.stage → ((c k : ℕ) → IsMove l c k → d c k ≤ 2000)
+end_small : (l : LineData) (d : ℕ → ℕ → ℕ) (v : VisitId) → IsLine l → IsVisit l v.carrier v.stage
+    → ((c k : ℕ) → IsMove l c k → d c k ≤ 2000)
     → unsigned_abs (end_of l d v.carrier v.stage).fixed ≤ 22000
 end_small l d v line visit short =
     let c = v.carrier in
@@ -253,11 +260,17 @@ end_small l d v line visit short =
     let earlier : Moment = record { carrier = c; step = k; fixed = pos (stage l k).lift } in
     let P : Bool → Type 0 = λ b. unsigned_abs (cond b last earlier).fixed ≤ 22000 in
     ⊎_elim
-    (λ e. subst P (sym (eq-eqb k (last_stage l) e)) (omega (arith, ints, line.limits.unload, short c (last_step l) (visit.0, omega (arith, line.limits.stages.0)))))
+    (λ e. subst P (sym (eq-eqb k (last_stage l) e)) (omega (
+      arith,
+      ints,
+      line.limits.unload,
+      short c (last_step l) (visit.0, omega (arith, line.limits.stages.0)),
+    )))
     (λ ne. subst P (sym (ne_eqb k (last_stage l) ne)) (omega (arith, ints, (line.times.lift k (omega (arith, ne, visit.1))).1)))
     (cases_eq k (last_stage l))
 
-lasts_short : (l : LineData) (path : List Decision) (p : Timetable) (c k : ℕ) → IsLine l → IsChosen l p path → IsMove l c k → durations_of l p c k ≤ 2000
+lasts_short : (l : LineData) (path : List Decision) (p : Timetable) (c k : ℕ) → IsLine l → IsChosen l p path
+    → IsMove l c k → durations_of l p c k ≤ 2000
 lasts_short l path p c k line chosen move = omega (arith, high_own l path p c k chosen move, high_small l path c k line move.1)
 
 moment_joins : (l : LineData) (x y : Moment) (q : ℤ) (n : ℕ) → IsMove l x.carrier x.step → IsMove l y.carrier y.step
@@ -275,7 +288,8 @@ moment_joins l x y q n move move' low = record {
   q = (omega (arith, ints), omega (arith, ints));
 }
 
-visits_join : (l : LineData) (path : List Decision) (p : Timetable) (a b : VisitId) → IsLine l → IsLegal l p → IsChosen l p path → p.period ≤ 20000
+visits_join : (l : LineData) (path : List Decision) (p : Timetable) (a b : VisitId) → IsLine l → IsLegal l p
+    → IsChosen l p path → p.period ≤ 20000
     → UseOneTank l p a b → All (Joins l) (ordered_visits l p a b (visit_order l p a b))
 visits_join l path p a b line legal chosen few pair =
     let t = ticks_of l p in
@@ -300,18 +314,23 @@ visits_join l path p a b line legal chosen few pair =
     (moment_joins l eb ba (neg_ℤ (q -ℤ pos 1)) n meb mba
     (second (t (node_of l ea)) (t (node_of l bb)) ea.fixed bb.fixed eb.fixed ba.fixed (q *ℤ pos n) ((q -ℤ pos 1) *ℤ pos n) (neg_ℤ (q -ℤ pos 1) *ℤ pos n)
     (neg_ℤ (neg_ℤ (q -ℤ pos 1)) *ℤ pos n) n (one_fewer q n) (times_back (q -ℤ pos 1) n) (times_back (neg_ℤ (q -ℤ pos 1)) n) few r.0 close'
-    (end_small l d a line pair.first short) (begin_small l d b line pair.second short) (end_small l d b line pair.second short) (begin_small l d a line pair.first short)))
+    (end_small l d a line pair.first short) (begin_small l d b line pair.second short)
+    (end_small l d b line pair.second short) (begin_small l d a line pair.first short)))
   where
-    first : (s s' f f' u back : ℤ) (n : ℕ) → back ≡ neg_ℤ u → n ≤ 20000 → (u -ℤ pos n) <ℤ ((s +ℤ f) -ℤ (s' +ℤ f')) → s ≤ℤ (s' +ℤ pos 702000)
+    first : (s s' f f' u back : ℤ) (n : ℕ) → back ≡ neg_ℤ u → n ≤ 20000 → (u -ℤ pos n) <ℤ ((s +ℤ f) -ℤ (s' +ℤ f'))
+        → s ≤ℤ (s' +ℤ pos 702000)
         → negsuc 899999 ≤ℤ ((f -ℤ f') +ℤ back)
     first s s' f f' u back n e few lt near = omega (arith, ints, e, few, lt, near)
 
-    second : (s s' f f' g g' u v back ahead : ℤ) (n : ℕ) → v ≡ u -ℤ pos n → back ≡ neg_ℤ v → ahead ≡ neg_ℤ back → n ≤ 20000 → ((s +ℤ f) -ℤ (s' +ℤ f')) ≤ℤ u
-        → s' ≤ℤ (s +ℤ pos 702000) → unsigned_abs f ≤ 22000 → unsigned_abs f' ≤ 22000 → unsigned_abs g ≤ 22000 → unsigned_abs g' ≤ 22000
+    second : (s s' f f' g g' u v back ahead : ℤ) (n : ℕ) → v ≡ u -ℤ pos n → back ≡ neg_ℤ v → ahead ≡ neg_ℤ back
+        → n ≤ 20000 → ((s +ℤ f) -ℤ (s' +ℤ f')) ≤ℤ u
+        → s' ≤ℤ (s +ℤ pos 702000) → unsigned_abs f ≤ 22000 → unsigned_abs f' ≤ 22000 → unsigned_abs g ≤ 22000
+        → unsigned_abs g' ≤ 22000
         → negsuc 899999 ≤ℤ ((g -ℤ g') +ℤ ahead)
     second s s' f f' g g' u v back ahead n ev eb ea few le near f1 f2 f3 f4 = omega (arith, ints, ev, eb, ea, few, le, near, f1, f2, f3, f4)
 
-moves_join : (l : LineData) (path : List Decision) (p : Timetable) (a b : MoveId) (span : Span) → IsLine l → IsLegal l p → IsChosen l p path → p.period ≤ 20000
+moves_join : (l : LineData) (path : List Decision) (p : Timetable) (a b : MoveId) (span : Span) → IsLine l → IsLegal l p
+    → IsChosen l p path → p.period ≤ 20000
     → Collide l p a b span → All (Joins l) (ordered_moves l p a b (move_order l p a b span) (Some span))
 moves_join l path p a b span line legal chosen few pair =
     let n = p.period in
@@ -348,16 +367,19 @@ moves_join l path p a b span line legal chosen few pair =
       q = (omega (arith, ints), omega (arith, ints));
     })
   where
-    first : (s s' w u back : ℤ) (n : ℕ) → back ≡ neg_ℤ u → n ≤ 20000 → (u -ℤ pos n) <ℤ (w -ℤ (s' -ℤ s)) → s ≤ℤ (s' +ℤ pos 702000) → negsuc 899999 ≤ℤ (w +ℤ back)
+    first : (s s' w u back : ℤ) (n : ℕ) → back ≡ neg_ℤ u → n ≤ 20000 → (u -ℤ pos n) <ℤ (w -ℤ (s' -ℤ s))
+        → s ≤ℤ (s' +ℤ pos 702000) → negsuc 899999 ≤ℤ (w +ℤ back)
     first s s' w u back n e few lt near = omega (arith, ints, e, few, lt, near)
 
-    second : (s s' w w' u v : ℤ) (n : ℕ) → v ≡ u -ℤ pos n → n ≤ 20000 → (w -ℤ (s' -ℤ s)) ≤ℤ u → s' ≤ℤ (s +ℤ pos 702000) → unsigned_abs w ≤ 3500
+    second : (s s' w w' u v : ℤ) (n : ℕ) → v ≡ u -ℤ pos n → n ≤ 20000 → (w -ℤ (s' -ℤ s)) ≤ℤ u → s' ≤ℤ (s +ℤ pos 702000)
+        → unsigned_abs w ≤ 3500
         → unsigned_abs w' ≤ 3500 → negsuc 899999 ≤ℤ (w' +ℤ v)
     second s s' w w' u v n e few le near a b = omega (arith, ints, e, few, le, near, a, b)
 
 -- ---- all
 
-all_join : (l : LineData) (path : List Decision) (p : Timetable) → IsLine l → IsLegal l p → IsChosen l p path → p.period ≤ 20000
+all_join : (l : LineData) (path : List Decision) (p : Timetable) → IsLine l → IsLegal l p → IsChosen l p path
+    → p.period ≤ 20000
     → All (Joins l) (margin_arcs l p path)
 all_join l path p line legal chosen few =
     let J : Arc → Type 0 = Joins l in
@@ -375,7 +397,8 @@ all_join l path p line legal chosen few =
     (visit_arcs_all l p J (omega (arith, line.limits.stages.0)) (λ a b pair. visits_join l path p a b line legal chosen few pair))
     (move_arcs_all l p J (omega (arith, line.limits.stages.0)) (λ a b span pair. moves_join l path p a b span line legal chosen few pair)))
 
-pub each_fits : (l : LineData) (path : List Decision) (p : Timetable) → IsLine l → IsLegal l p → IsChosen l p path → p.period ≤ 20000
+pub each_fits : (l : LineData) (path : List Decision) (p : Timetable) → IsLine l → IsLegal l p → IsChosen l p path
+    → p.period ≤ 20000
     → (k : ℕ) → k < length (margin_arcs l p path) → IsMarginArc l (arc_at (margin_arcs l p path) k)
 each_fits l path p line legal chosen few k lt =
     let arcs = margin_arcs l p path in

@@ -69,12 +69,14 @@ and_no false b h = refl
 eqb_eq : (a b : ℕ) → (a == b) ≡ true → a ≡ b
 eqb_eq a b e = ⊎_elim (λ same. same) (λ ne. let f = ne_eqb a b ne in cc) (cases_eq a b)
 
-other_choice : (v : VisitId) (child c k : ℕ) → ((v.carrier ≡ c) × (v.stage ≡ k) → ⊥) → choice_by c k (Choose v) child ≡ None
+other_choice : (v : VisitId) (child c k : ℕ) → ((v.carrier ≡ c) × (v.stage ≡ k) → ⊥)
+    → choice_by c k (Choose v) child ≡ None
 other_choice v child c k other =
     ap (λ (b : Bool). cond b (Some child) None)
     (and_no (v.carrier == c) (v.stage == k) (λ e f. other (eqb_eq v.carrier c e, eqb_eq v.stage k f)))
 
-other_assign : (m : MoveId) (child c k : ℕ) → ((m.carrier ≡ c) × (m.step ≡ k) → ⊥) → assigned_by c k (Assign m) child ≡ None
+other_assign : (m : MoveId) (child c k : ℕ) → ((m.carrier ≡ c) × (m.step ≡ k) → ⊥)
+    → assigned_by c k (Assign m) child ≡ None
 other_assign m child c k other =
     ap (λ (b : Bool). cond b (Some child) None)
     (and_no (m.carrier == c) (m.step == k) (λ e f. other (eqb_eq m.carrier c e, eqb_eq m.step k f)))
@@ -86,7 +88,8 @@ same_number n i j e f =
     omega (arith, div-add-mod' i n, div-add-mod' j n, rows, f)
 
 -- a tank that is below a path stays below a longer one
-tank_on : (l : LineData) (path : List Decision) (d : Decision) (c k t : ℕ) → FitsPath l (path ++ d ∷ []) → tank_below l path c k ≡ Some t
+tank_on : (l : LineData) (path : List Decision) (d : Decision) (c k t : ℕ) → FitsPath l (path ++ d ∷ [])
+    → tank_below l path c k ≡ Some t
     → tank_below l (path ++ d ∷ []) c k ≡ Some t
 tank_on l path d c k t fits e =
     let P : List Decision → Type 0 = λ ds. tank_below l ds c k ≡ Some t in
@@ -106,7 +109,8 @@ none_chosen l p = record {
 }
 
 -- a stage with one tank needs no decision
-pub one_tank : (l : LineData) (p : Timetable) (path : List Decision) (n : ℕ) → ChoosesBelow l p path n → length (stage l (visit_at l n).stage).tanks < 2
+pub one_tank : (l : LineData) (p : Timetable) (path : List Decision) (n : ℕ) → ChoosesBelow l p path n
+    → length (stage l (visit_at l n).stage).tanks < 2
     → ChoosesBelow l p path (n + 1)
 one_tank l p path n h few = record {
   fits = h.fits;
@@ -121,7 +125,8 @@ one_tank l p path n h few = record {
   free = h.free;
 }
 
-pub tank_chosen : (l : LineData) (p : Timetable) (path : List Decision) (n child : ℕ) (v : VisitId) → ChoosesBelow l p path n → v ≡ visit_at l n
+pub tank_chosen : (l : LineData) (p : Timetable) (path : List Decision) (n child : ℕ) (v : VisitId)
+    → ChoosesBelow l p path n → v ≡ visit_at l n
     → IsVisit l v.carrier v.stage → 2 ≤ length (stage l v.stage).tanks → child < length (stage l v.stage).tanks
     → slice_get (stage l v.stage).tanks child ≡ Some (p.tank v.carrier v.stage)
     → ChoosesBelow l p (path ++ choose v child ∷ []) (n + 1)
@@ -180,7 +185,8 @@ in_rows c k n d lt lt' =
     let le : (c + 1) * n ≤ d * n = mul-le (c + 1) n d n (omega (arith, lt)) (omega arith) in
     omega (arith, le, lt')
 
-pub all_chosen : (l : LineData) (p : Timetable) (path : List Decision) (n : ℕ) → IsLine l → IsLegal l p → ChoosesBelow l p path n → n ≡ visit_count l
+pub all_chosen : (l : LineData) (p : Timetable) (path : List Decision) (n : ℕ) → IsLine l → IsLegal l p
+    → ChoosesBelow l p path n → n ≡ visit_count l
     → AssignsBelow l p path 0
 all_chosen l p path n line legal h all = record {
   fits = h.fits;
@@ -204,7 +210,8 @@ all_chosen l p path n line legal h all = record {
 -- ---- hoists
 
 pub one_hoist : (l : LineData) (p : Timetable) (path : List Decision) (n : ℕ) → AssignsBelow l p path n
-    → length (hoists_reaching l (motion l p (move_at l n).carrier (move_at l n).step)) < 2 → AssignsBelow l p path (n + 1)
+    → length (hoists_reaching l (motion l p (move_at l n).carrier (move_at l n).step)) < 2
+    → AssignsBelow l p path (n + 1)
 one_hoist l p path n h few = record {
   fits = h.fits;
   meets = h.meets;
@@ -220,12 +227,14 @@ one_hoist l p path n h few = record {
 }
 
 -- the motion of a move whose tanks are chosen
-pub motion_chosen : (l : LineData) (p : Timetable) (path : List Decision) (c k : ℕ) → ((c k : ℕ) → IsVisit l c k → tank_below l path c k ≡ Some (p.tank c k))
+pub motion_chosen : (l : LineData) (p : Timetable) (path : List Decision) (c k : ℕ)
+    → ((c k : ℕ) → IsVisit l c k → tank_below l path c k ≡ Some (p.tank c k))
     → IsMove l c k → motion_below l path c k ≡ Some (motion l p c k)
 motion_chosen l p path c k tanks move =
     motion_is l path c k (p.tank c k) (p.tank c (k + 1)) (tanks c k (visit_before l c k move)) (tanks c (k + 1) (visit_after l c k move))
 
-pub hoist_assigned : (l : LineData) (p : Timetable) (path : List Decision) (n child : ℕ) (m : MoveId) → AssignsBelow l p path n → m ≡ move_at l n
+pub hoist_assigned : (l : LineData) (p : Timetable) (path : List Decision) (n child : ℕ) (m : MoveId)
+    → AssignsBelow l p path n → m ≡ move_at l n
     → IsMove l m.carrier m.step → 2 ≤ length (hoists_reaching l (motion l p m.carrier m.step))
     → child < length (hoists_reaching l (motion l p m.carrier m.step))
     → slice_get (hoists_reaching l (motion l p m.carrier m.step)) child ≡ Some (p.hoist m.carrier m.step)
@@ -239,7 +248,13 @@ hoist_assigned l p path n child m h is move several there get =
     let count : length (hoists_below l path m.carrier m.step) ≡ length (hoists_reaching l (motion l p m.carrier m.step)) = ap (λ (xs : List ℕ). length xs) hs in
     let fits : FitsDecision l path d = record {
       question = record {
-        stands = record { move = move; motion = is_some_of (motion_below l path m.carrier m.step) (motion l p m.carrier m.step) settled; open_yet = free; several = λ one. omega (arith, one, count, several) };
+        stands = record {
+          move = move;
+          motion = is_some_of (motion_below l path m.carrier m.step)
+              (motion l p m.carrier m.step) settled;
+          open_yet = free;
+          several = λ one. omega (arith, one, count, several);
+        };
         small = omega arith;
       };
       child = omega (arith, there, count);
@@ -291,7 +306,8 @@ hoist_assigned l p path n child m h is move several there get =
     is_some_of (Some y) x e = refl
 
 -- the hoist that an Assign on the path gives
-assigned_get : (l : LineData) (path : List Decision) (p : Timetable) (c k n : ℕ) → MeetsPath l p path → assigned_of path c k ≡ Some n
+assigned_get : (l : LineData) (path : List Decision) (p : Timetable) (c k n : ℕ) → MeetsPath l p path
+    → assigned_of path c k ≡ Some n
     → slice_get (hoists_reaching l (motion l p c k)) n ≡ Some (p.hoist c k)
 assigned_get l path p c k n meets e =
     let r = assigned path c k n e in
@@ -301,14 +317,16 @@ assigned_get l path p c k n meets e =
     let C : ℕ → Type 0 = λ j. slice_get (hoists_reaching l (motion l p j k)) n ≡ Some (p.hoist j k) in
     subst C r.carrier (subst B r.step (subst A r.child (subst Q r.question (meets r.place r.there))))
 
-hoist_one : (hs : List ℕ) (o : Option ℕ) (x : ℕ) → Contains hs x → (o ≡ None → length hs < 2) → ((n : ℕ) → o ≡ Some n → slice_get hs n ≡ Some x)
+hoist_one : (hs : List ℕ) (o : Option ℕ) (x : ℕ) → Contains hs x → (o ≡ None → length hs < 2)
+    → ((n : ℕ) → o ≡ Some n → slice_get hs n ≡ Some x)
     → (h : ℕ) × (hoist_by hs o ≡ Some h)
 hoist_one [] o x c few get = absurd (omega (arith, c.1))
 hoist_one (y ∷ []) o x c few get = (y, refl)
 hoist_one (y ∷ z ∷ zs) None x c few get = absurd (omega (arith, few refl))
 hoist_one (y ∷ z ∷ zs) (Some n) x c few get = (x, get n refl)
 
-pub all_assigned : (l : LineData) (p : Timetable) (path : List Decision) (n : ℕ) → IsLine l → IsLegal l p → AssignsBelow l p path n → n ≡ l.degree * last_stage l
+pub all_assigned : (l : LineData) (p : Timetable) (path : List Decision) (n : ℕ) → IsLine l → IsLegal l p
+    → AssignsBelow l p path n → n ≡ l.degree * last_stage l
     → IsChosen l p path
 all_assigned l p path n line legal h all = record {
   fits = h.fits;
@@ -325,7 +343,8 @@ all_assigned l p path n line legal h all = record {
       let Q : ℕ → Type 0 = λ x. assigned_of path c x ≡ None → length (hoists_reaching l (motion l p c x)) < 2 in
       let few = subst Q at' (subst P at (h.made i below)) in
       let m = motion l p c k in
-      let one = hoist_one (hoists_reaching l m) (assigned_of path c k) (p.hoist c k) (hoist_open l p c k legal move) few (λ x e. assigned_get l path p c k x h.meets e) in
+      let one = hoist_one (hoists_reaching l m) (assigned_of path c k) (p.hoist c k) (hoist_open l p c k legal move) few
+      (λ x e. assigned_get l path p c k x h.meets e) in
       let r : Ride = record { motion = m; hoist = one.0 } in
       let settled : SettledRide l path c k r = record { motion = motion_chosen l p path c k h.tanks move; hoist = one.1 } in
       let ride = ride_is l path c k r settled in
@@ -343,7 +362,8 @@ none_decided i [] free = refl
 none_decided i (d ∷ ds) free = cases d.question (All-head (λ (x : Decision). IsOrder x.question → ⊥) d ds free)
     (none_decided (i + 1) ds (All-tail (λ (x : Decision). IsOrder x.question → ⊥) d ds free))
   where
-    cases : (q : Question) → (IsOrder q → ⊥) → decided_list (i + 1) ds ≡ [] → decided_by q i ++ decided_list (i + 1) ds ≡ []
+    cases : (q : Question) → (IsOrder q → ⊥) → decided_list (i + 1) ds ≡ []
+        → decided_by q i ++ decided_list (i + 1) ds ≡ []
     cases (Assign m) not e = e
     cases (TankOrder a b q) not e = absurd (not tt)
     cases (HoistOrder a b q) not e = absurd (not tt)

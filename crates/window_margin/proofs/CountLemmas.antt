@@ -1,4 +1,5 @@
--- How many constraints there are: two for each pair of moves, and two for few of the pairs of visits, since no two stages in a row have a tank in common.
+-- How many constraints there are: two for each pair of moves, and two for few of the pairs of visits, since no two
+-- stages in a row have a tank in common.
 use Rattle.std.proofs.Common.{⊎_elim, ◌⊎◌, inl, inr, ◌≡◌, ℕ, zero, suc, ◌+◌, ◌-◌, ◌*◌, ◌/◌, ◌%◌, ◌<◌, ◌≤◌, List, [], ◌++◌, length, refl, sym, ◌∙◌, ap, subst, arith, Some, None, Bool, cond, eq-eqb}
 use Rattle.std.specs.Prelude.{Option}
 use Rattle.std.proofs.lemmas.Bool.{cases_lt, cases_eq, ne_eqb, lt-ltb, le-ltb}
@@ -23,7 +24,8 @@ use Rattle.window_margin.proofs.KeepLemmas.{in_row}
 -- ---- rows in a triangle
 
 -- rows that get shorter one by one, with some more in each
-triangle : (row : ℕ → List Arc) (n more step m : ℕ) → ((i : ℕ) → i < n → length (row i) ≤ step * (n - (i + 1)) + more) → m ≤ n
+triangle : (row : ℕ → List Arc) (n more step m : ℕ) → ((i : ℕ) → i < n → length (row i) ≤ step * (n - (i + 1)) + more)
+    → m ≤ n
     → length (rows_below row m) + length (rows_below row m) + step * ((n - m) * (n - m)) ≤ step * (n * n) + 2 * (m * more)
 triangle row n more step zero h le =
     let e : n - 0 ≡ n = omega arith in
@@ -37,9 +39,11 @@ triangle row n more step (suc m) h le =
     let split = length-append (rows_below row m) (row m) in
     let one : step * ((n - m) * (n - m)) ≡ step * (suc d * suc d) = ap (λ (x : ℕ). step * (x * x)) e in
     let last : length (row m) ≤ step * d + more = subst (λ (x : ℕ). length (row m) ≤ step * x + more) e' (h m (omega (arith, le))) in
-    square (length (rows_below row (suc m))) (length (rows_below row m)) (length (row m)) step d (n * n) m more (step * ((n - m) * (n - m))) split one before last
+    square (length (rows_below row (suc m))) (length (rows_below row m)) (length (row m)) step d (n * n) m more
+    (step * ((n - m) * (n - m))) split one before last
   where
-    square : (l' l r s d nn m more x : ℕ) → l' ≡ l + r → x ≡ s * (suc d * suc d) → l + l + x ≤ s * nn + 2 * (m * more) → r ≤ s * d + more
+    square : (l' l r s d nn m more x : ℕ) → l' ≡ l + r → x ≡ s * (suc d * suc d) → l + l + x ≤ s * nn + 2 * (m * more)
+        → r ≤ s * d + more
         → l' + l' + s * (d * d) ≤ s * nn + 2 * (suc m * more)
     square l' l r s d nn m more x e f h k = omega (arith, e, f, h, k)
 
@@ -52,7 +56,8 @@ most_two l p a b (Some span) = omega arith
 row_moves : (l : LineData) (p : Timetable) (i j : ℕ) → length (move_row l p i j) ≤ 2
 row_moves l p i j =
     let L = move_pair l p (move_at l i) (move_at l j) in
-    ⊎_elim (λ lt. subst (λ (b : Bool). length (cond b L []) ≤ 2) (sym (lt-ltb i j lt)) (most_two l p (move_at l i) (move_at l j) (own_clash l p (move_at l i) (move_at l j))))
+    ⊎_elim (λ lt. subst (λ (b : Bool). length (cond b L []) ≤ 2) (sym (lt-ltb i j lt))
+    (most_two l p (move_at l i) (move_at l j) (own_clash l p (move_at l i) (move_at l j))))
     (λ le. subst (λ (b : Bool). length (cond b L []) ≤ 2) (sym (le-ltb i j le)) (omega arith))
     (cases_lt i j)
 
@@ -88,8 +93,10 @@ row_visits l p i j =
     (cases_lt i j)
 
 -- two visits in a row by one carrier have other tanks
-next_differs : (l : LineData) (p : Timetable) (j : ℕ) → IsLine l → IsLegal l p → j + 1 < visit_count l → (j + 1) / length l.stages ≡ j / length l.stages
-    → p.tank (visit_at l j).carrier (visit_at l j).stage ≡ p.tank (visit_at l (j + 1)).carrier (visit_at l (j + 1)).stage → ⊥
+next_differs : (l : LineData) (p : Timetable) (j : ℕ) → IsLine l → IsLegal l p → j + 1 < visit_count l
+    → (j + 1) / length l.stages ≡ j / length l.stages
+    → p.tank (visit_at l j).carrier (visit_at l j).stage ≡ p.tank (visit_at l (j + 1)).carrier (visit_at l (j + 1)).stage
+    → ⊥
 next_differs l p j line legal lt row same =
     let n = length l.stages in
     let some : 0 < n = omega (arith, line.limits.stages.0) in
@@ -107,11 +114,13 @@ next_differs l p j line legal lt row same =
 -- a row up to j: no more than there are visits, and one more a carrier, and one more where the last one is in it
 pub record FewVisits (l : LineData) (p : Timetable) (i j : ℕ) : Type 0 where
   pub most : length (rows_below (visit_row l p i) (j + 1)) ≤ (j + 1 - (i + 1)) + j / length l.stages + 1
-  pub free : length (visit_row l p i j) ≡ 0 → length (rows_below (visit_row l p i) (j + 1)) ≤ (j + 1 - (i + 1)) + j / length l.stages
+  pub free : length (visit_row l p i j) ≡ 0
+      → length (rows_below (visit_row l p i) (j + 1)) ≤ (j + 1 - (i + 1)) + j / length l.stages
 
 few_visits : (l : LineData) (p : Timetable) (i j : ℕ) → IsLine l → IsLegal l p → j < visit_count l → FewVisits l p i j
 few_visits l p i zero line legal lt =
-    let none : length (visit_row l p i 0) ≡ 0 = ap (λ (b : Bool). length (cond b (visit_pair l p (visit_at l i) (visit_at l 0)) [])) (le-ltb i 0 (omega arith)) in
+    let none : length (visit_row l p i 0) ≡ 0 = ap (λ (b : Bool). length
+    (cond b (visit_pair l p (visit_at l i) (visit_at l 0)) [])) (le-ltb i 0 (omega arith)) in
     let e : 0 + 1 ≡ suc 0 = omega arith in
     let long : length (rows_below (visit_row l p i) (0 + 1)) ≡ length (visit_row l p i 0) = ap (λ (m : ℕ). length (rows_below (visit_row l p i) m)) e in
     record { most = omega (arith, long, none); free = λ f. omega (arith, long, none) }
@@ -123,7 +132,8 @@ few_visits l p i (suc j) line legal lt =
     let e : suc j + 1 ≡ suc (suc j) = omega arith in
     let e' : j + 1 ≡ suc j = omega arith in
     let long : length (rows_below R (suc j + 1)) ≡ length (rows_below R (j + 1)) + length (R (suc j)) =
-    ap (λ (m : ℕ). length (rows_below R m)) e ∙ length-append (rows_below R (suc j)) (R (suc j)) ∙ ap (λ (m : ℕ). length (rows_below R m) + length (R (suc j))) (sym e') in
+    ap (λ (m : ℕ). length (rows_below R m)) e ∙ length-append (rows_below R (suc j)) (R (suc j))
+    ∙ ap (λ (m : ℕ). length (rows_below R m) + length (R (suc j))) (sym e') in
     let split = div-add-mod' j n in
     let split' = div-add-mod' (suc j) n in
     let rem = mod_below j n some in
@@ -171,10 +181,12 @@ few_visits l p i (suc j) line legal lt =
     nothing : (i m : ℕ) → m ≤ i + 1 → length (rows_below (visit_row l p i) m) ≡ 0
     nothing i zero le = refl
     nothing i (suc m) le =
-        let none : length (visit_row l p i m) ≡ 0 = ap (λ (b : Bool). length (cond b (visit_pair l p (visit_at l i) (visit_at l m)) [])) (le-ltb i m (omega (arith, le))) in
+        let none : length (visit_row l p i m) ≡ 0 = ap (λ (b : Bool). length
+        (cond b (visit_pair l p (visit_at l i) (visit_at l m)) [])) (le-ltb i m (omega (arith, le))) in
         omega (arith, length-append (rows_below (visit_row l p i) m) (visit_row l p i m), none, nothing i m (omega (arith, le)))
 
-long_visits : (l : LineData) (p : Timetable) (i : ℕ) → IsLine l → IsLegal l p → length (rows_below (visit_row l p i) (visit_count l)) ≤ 1 * (visit_count l - (i + 1)) + 4
+long_visits : (l : LineData) (p : Timetable) (i : ℕ) → IsLine l → IsLegal l p
+    → length (rows_below (visit_row l p i) (visit_count l)) ≤ 1 * (visit_count l - (i + 1)) + 4
 long_visits l p i line legal =
     let n = length l.stages in
     let count = visit_count l in
@@ -189,7 +201,8 @@ long_visits l p i line legal =
 
 -- ---- all
 
-pub few_arcs : (l : LineData) (path : List Decision) (p : Timetable) → IsLine l → IsLegal l p → length (margin_arcs l p path) ≤ 30000
+pub few_arcs : (l : LineData) (path : List Decision) (p : Timetable) → IsLine l → IsLegal l p
+    → length (margin_arcs l p path) ≤ 30000
 few_arcs l path p line legal =
     let m = move_count l in
     let v = visit_count l in
@@ -202,5 +215,20 @@ few_arcs l path p line legal =
     let mm = mul-le m m 124 124 few_moves few_moves in
     let vv = mul-le v v 128 128 few_visits' few_visits' in
     let u : length (undecided_arcs l path p.period) ≤ 700 =
-    omega (arith, length-map (undecided_list l) (λ (t : Constraint). at_period p.period (share_of t) (arc_of l path t)), length_undecided l, undecided_small l line) in
-    omega (arith, length-append (undecided_arcs l path p.period) (visit_arcs l p ++ move_arcs l p), length-append (visit_arcs l p) (move_arcs l p), u, a, b, mm, vv, few_visits')
+    omega (
+      arith,
+      length-map (undecided_list l) (λ (t : Constraint). at_period p.period (share_of t) (arc_of l path t)),
+      length_undecided l,
+      undecided_small l line,
+    ) in
+    omega (
+      arith,
+      length-append (undecided_arcs l path p.period) (visit_arcs l p ++ move_arcs l p),
+      length-append (visit_arcs l p) (move_arcs l p),
+      u,
+      a,
+      b,
+      mm,
+      vv,
+      few_visits',
+    )

@@ -32,7 +32,8 @@ all_right P xs ys h = subst (λ (zs : List Arc). All P zs) (drop-append_seam xs 
 pub split_all : (P : Arc → Type 0) (xs ys : List Arc) → All P (xs ++ ys) → All P xs × All P ys
 split_all P xs ys h = (all_left P xs ys h, all_right P xs ys h)
 
-rows_all : (P : Arc → Type 0) (row : ℕ → List Arc) (n : ℕ) → ((i : ℕ) → i < n → All P (row i)) → All P (rows_below row n)
+rows_all : (P : Arc → Type 0) (row : ℕ → List Arc) (n : ℕ) → ((i : ℕ) → i < n → All P (row i))
+    → All P (rows_below row n)
 rows_all P row zero h = All-nil P
 rows_all P row (suc n) h = All-append P (rows_below row n) (row n) (rows_all P row n (λ i lt. h i (omega (arith, lt)))) (h n (omega arith))
 
@@ -121,7 +122,8 @@ at_move l m lt =
 no_share : (g : ℕ) → pos 0 *ℤ pos g ≡ pos 0
 no_share g = omega (arith, ints)
 
-keeps_moment : (l : LineData) (t : ℕ → ℤ) (g n : ℕ) (x y : Moment) (q : ℤ) → tick_of l t x ≤ℤ periods_later (tick_of l t y) q n
+keeps_moment : (l : LineData) (t : ℕ → ℤ) (g n : ℕ) (x y : Moment) (q : ℤ)
+    → tick_of l t x ≤ℤ periods_later (tick_of l t y) q n
     → Keeps t g (at_period n (pos 0) (moment_arc l x y q))
 keeps_moment l t g n x y q h =
     there (t (node_of l x)) x.fixed (t (node_of l y)) y.fixed (q *ℤ pos n) (neg_ℤ q *ℤ pos n) (pos 0 *ℤ pos g) (times_back q n) (no_share g) h
@@ -130,12 +132,14 @@ keeps_moment l t g n x y q h =
         → (s +ℤ (((f -ℤ f') +ℤ back) +ℤ none)) ≤ℤ s'
     there s f s' f' ahead back none e z h = omega (arith, ints)
 
-moment_kept : (l : LineData) (t : ℕ → ℤ) (g n : ℕ) (x y : Moment) (q : ℤ) → Keeps t g (at_period n (pos 0) (moment_arc l x y q))
+moment_kept : (l : LineData) (t : ℕ → ℤ) (g n : ℕ) (x y : Moment) (q : ℤ)
+    → Keeps t g (at_period n (pos 0) (moment_arc l x y q))
     → tick_of l t x ≤ℤ periods_later (tick_of l t y) q n
 moment_kept l t g n x y q h =
     again (t (node_of l x)) x.fixed (t (node_of l y)) y.fixed (q *ℤ pos n) (neg_ℤ q *ℤ pos n) (pos 0 *ℤ pos g) (times_back q n) (no_share g) h
   where
-    again : (s f s' f' ahead back none : ℤ) → back ≡ neg_ℤ ahead → none ≡ pos 0 → (s +ℤ (((f -ℤ f') +ℤ back) +ℤ none)) ≤ℤ s'
+    again : (s f s' f' ahead back none : ℤ) → back ≡ neg_ℤ ahead → none ≡ pos 0
+        → (s +ℤ (((f -ℤ f') +ℤ back) +ℤ none)) ≤ℤ s'
         → (s +ℤ f) ≤ℤ ((s' +ℤ f') +ℤ ahead)
     again s f s' f' ahead back none e z h = omega (arith, ints)
 
@@ -169,7 +173,8 @@ visits_all l p t g a b h =
     (keeps_moment l t g n (end_of l d b.carrier b.stage) (begin_of l d a.carrier a.stage) (neg_ℤ (q -ℤ pos 1))
     (turn e s ((q -ℤ pos 1) *ℤ pos n) (neg_ℤ (q -ℤ pos 1) *ℤ pos n) (times_back (q -ℤ pos 1) n) h.1))
 
-all_visits : (l : LineData) (p : Timetable) (t : ℕ → ℤ) (g : ℕ) (a b : VisitId) → All (Keeps t g) (ordered_visits l p a b (visit_order l p a b))
+all_visits : (l : LineData) (p : Timetable) (t : ℕ → ℤ) (g : ℕ) (a b : VisitId)
+    → All (Keeps t g) (ordered_visits l p a b (visit_order l p a b))
     → KeepsVisits l p t a b
 all_visits l p t g a b h =
     let d = durations_of l p in
@@ -185,7 +190,8 @@ all_visits l p t g a b h =
     )
 
 pub visit_arcs_all : (l : LineData) (p : Timetable) (P : Arc → Type 0) → 0 < length l.stages
-    → ((a b : VisitId) → UseOneTank l p a b → All P (ordered_visits l p a b (visit_order l p a b))) → All P (visit_arcs l p)
+    → ((a b : VisitId) → UseOneTank l p a b → All P (ordered_visits l p a b (visit_order l p a b)))
+    → All P (visit_arcs l p)
 visit_arcs_all l p P some h =
     let n = length l.stages in
     rows_all P (λ i. rows_below (visit_row l p i) (visit_count l)) (visit_count l)
@@ -211,7 +217,8 @@ pub visit_arcs_kept : (l : LineData) (p : Timetable) (t : ℕ → ℤ) (g : ℕ)
     → ((a b : VisitId) → UseOneTank l p a b → KeepsVisits l p t a b) → All (Keeps t g) (visit_arcs l p)
 visit_arcs_kept l p t g some h = visit_arcs_all l p (Keeps t g) some (λ a b pair. visits_all l p t g a b (h a b pair))
 
-pub visit_arcs_keep : (l : LineData) (p : Timetable) (t : ℕ → ℤ) (g : ℕ) → All (Keeps t g) (visit_arcs l p) → (a b : VisitId) → UseOneTank l p a b
+pub visit_arcs_keep : (l : LineData) (p : Timetable) (t : ℕ → ℤ) (g : ℕ) → All (Keeps t g) (visit_arcs l p)
+    → (a b : VisitId) → UseOneTank l p a b
     → KeepsVisits l p t a b
 visit_arcs_keep l p t g h a b pair =
     let n = length l.stages in
@@ -219,7 +226,8 @@ visit_arcs_keep l p t g h a b pair =
     let i : ℕ = visit_number l a.carrier a.stage in
     let j : ℕ = visit_number l b.carrier b.stage in
     let less = number_rises a.carrier a.stage b.carrier b.stage n pair.first.1 pair.second.1 pair.before in
-    let row = rows_each P (λ x. rows_below (visit_row l p x) (visit_count l)) (visit_count l) h i (number_below a.carrier a.stage l.degree n pair.first.0 pair.first.1) in
+    let row = rows_each P (λ x. rows_below (visit_row l p x) (visit_count l)) (visit_count l) h i
+    (number_below a.carrier a.stage l.degree n pair.first.0 pair.first.1) in
     let here = rows_each P (visit_row l p i) (visit_count l) row j (number_below b.carrier b.stage l.degree n pair.second.0 pair.second.1) in
     let at : All P (visit_pair l p (visit_at l i) (visit_at l j)) = opened P i j (visit_pair l p (visit_at l i) (visit_at l j)) here less in
     let one = subst (λ (v : VisitId). All P (visit_pair l p v (visit_at l j))) (at_visit l a pair.first.1) at in
@@ -236,36 +244,46 @@ KeepsMoves l p t a b span =
     let q = move_order l p a b span in
     (span.after ≤ℤ offset_of l t p.period a b q) × (span.before ≤ℤ neg_ℤ (offset_of l t p.period a b (q -ℤ pos 1)))
 
-keeps_after : (l : LineData) (t : ℕ → ℤ) (g n : ℕ) (a b : MoveId) (q : ℤ) (span : Span) → span.after ≤ℤ offset_of l t n a b q
+keeps_after : (l : LineData) (t : ℕ → ℤ) (g n : ℕ) (a b : MoveId) (q : ℤ) (span : Span)
+    → span.after ≤ℤ offset_of l t n a b q
     → Keeps t g (at_period n (pos 0) (span_arc l a b q 0 (Some span)))
 keeps_after l t g n a b q span h =
-    there (t (move_number l a.carrier a.step)) (t (move_number l b.carrier b.step)) span.after (q *ℤ pos n) (neg_ℤ q *ℤ pos n) (pos 0 *ℤ pos g) (times_back q n) (no_share g) h
+    there (t (move_number l a.carrier a.step)) (t (move_number l b.carrier b.step)) span.after (q *ℤ pos n)
+    (neg_ℤ q *ℤ pos n) (pos 0 *ℤ pos g) (times_back q n) (no_share g) h
   where
-    there : (s s' w ahead back none : ℤ) → back ≡ neg_ℤ ahead → none ≡ pos 0 → w ≤ℤ ((s' +ℤ ahead) -ℤ s) → (s +ℤ ((w +ℤ back) +ℤ none)) ≤ℤ s'
+    there : (s s' w ahead back none : ℤ) → back ≡ neg_ℤ ahead → none ≡ pos 0 → w ≤ℤ ((s' +ℤ ahead) -ℤ s)
+        → (s +ℤ ((w +ℤ back) +ℤ none)) ≤ℤ s'
     there s s' w ahead back none e z h = omega (arith, ints)
 
-after_kept : (l : LineData) (t : ℕ → ℤ) (g n : ℕ) (a b : MoveId) (q : ℤ) (span : Span) → Keeps t g (at_period n (pos 0) (span_arc l a b q 0 (Some span)))
+after_kept : (l : LineData) (t : ℕ → ℤ) (g n : ℕ) (a b : MoveId) (q : ℤ) (span : Span)
+    → Keeps t g (at_period n (pos 0) (span_arc l a b q 0 (Some span)))
     → span.after ≤ℤ offset_of l t n a b q
 after_kept l t g n a b q span h =
-    again (t (move_number l a.carrier a.step)) (t (move_number l b.carrier b.step)) span.after (q *ℤ pos n) (neg_ℤ q *ℤ pos n) (pos 0 *ℤ pos g) (times_back q n) (no_share g) h
+    again (t (move_number l a.carrier a.step)) (t (move_number l b.carrier b.step)) span.after (q *ℤ pos n)
+    (neg_ℤ q *ℤ pos n) (pos 0 *ℤ pos g) (times_back q n) (no_share g) h
   where
-    again : (s s' w ahead back none : ℤ) → back ≡ neg_ℤ ahead → none ≡ pos 0 → (s +ℤ ((w +ℤ back) +ℤ none)) ≤ℤ s' → w ≤ℤ ((s' +ℤ ahead) -ℤ s)
+    again : (s s' w ahead back none : ℤ) → back ≡ neg_ℤ ahead → none ≡ pos 0 → (s +ℤ ((w +ℤ back) +ℤ none)) ≤ℤ s'
+        → w ≤ℤ ((s' +ℤ ahead) -ℤ s)
     again s s' w ahead back none e z h = omega (arith, ints)
 
-keeps_before : (l : LineData) (t : ℕ → ℤ) (g n : ℕ) (a b : MoveId) (q : ℤ) (span : Span) → span.before ≤ℤ neg_ℤ (offset_of l t n a b q)
+keeps_before : (l : LineData) (t : ℕ → ℤ) (g n : ℕ) (a b : MoveId) (q : ℤ) (span : Span)
+    → span.before ≤ℤ neg_ℤ (offset_of l t n a b q)
     → Keeps t g (at_period n (pos 0) (span_arc l a b q 1 (Some span)))
 keeps_before l t g n a b q span h =
     there (t (move_number l a.carrier a.step)) (t (move_number l b.carrier b.step)) span.before (q *ℤ pos n) (pos 0 *ℤ pos g) (no_share g) h
   where
-    there : (s s' w ahead none : ℤ) → none ≡ pos 0 → w ≤ℤ neg_ℤ ((s' +ℤ ahead) -ℤ s) → (s' +ℤ ((w +ℤ ahead) +ℤ none)) ≤ℤ s
+    there : (s s' w ahead none : ℤ) → none ≡ pos 0 → w ≤ℤ neg_ℤ ((s' +ℤ ahead) -ℤ s)
+        → (s' +ℤ ((w +ℤ ahead) +ℤ none)) ≤ℤ s
     there s s' w ahead none z h = omega (arith, ints)
 
-before_kept : (l : LineData) (t : ℕ → ℤ) (g n : ℕ) (a b : MoveId) (q : ℤ) (span : Span) → Keeps t g (at_period n (pos 0) (span_arc l a b q 1 (Some span)))
+before_kept : (l : LineData) (t : ℕ → ℤ) (g n : ℕ) (a b : MoveId) (q : ℤ) (span : Span)
+    → Keeps t g (at_period n (pos 0) (span_arc l a b q 1 (Some span)))
     → span.before ≤ℤ neg_ℤ (offset_of l t n a b q)
 before_kept l t g n a b q span h =
     again (t (move_number l a.carrier a.step)) (t (move_number l b.carrier b.step)) span.before (q *ℤ pos n) (pos 0 *ℤ pos g) (no_share g) h
   where
-    again : (s s' w ahead none : ℤ) → none ≡ pos 0 → (s' +ℤ ((w +ℤ ahead) +ℤ none)) ≤ℤ s → w ≤ℤ neg_ℤ ((s' +ℤ ahead) -ℤ s)
+    again : (s s' w ahead none : ℤ) → none ≡ pos 0 → (s' +ℤ ((w +ℤ ahead) +ℤ none)) ≤ℤ s
+        → w ≤ℤ neg_ℤ ((s' +ℤ ahead) -ℤ s)
     again s s' w ahead none z h = omega (arith, ints)
 
 moves_both : (l : LineData) (p : Timetable) (t : ℕ → ℤ) (g : ℕ) (a b : MoveId) (span : Span) → KeepsMoves l p t a b span
@@ -279,7 +297,8 @@ all_moves : (l : LineData) (p : Timetable) (t : ℕ → ℤ) (g : ℕ) (a b : Mo
     → All (Keeps t g) (ordered_moves l p a b (move_order l p a b span) (Some span)) → KeepsMoves l p t a b span
 all_moves l p t g a b span h =
     let q = move_order l p a b span in
-    let r = both (Keeps t g) (at_period p.period (pos 0) (span_arc l a b q 0 (Some span))) (at_period p.period (pos 0) (span_arc l a b (q -ℤ pos 1) 1 (Some span))) h in
+    let r = both (Keeps t g) (at_period p.period (pos 0) (span_arc l a b q 0 (Some span)))
+    (at_period p.period (pos 0) (span_arc l a b (q -ℤ pos 1) 1 (Some span))) h in
     (after_kept l t g p.period a b q span r.0, before_kept l t g p.period a b (q -ℤ pos 1) span r.1)
 
 -- two moves in their order that collide at some offsets
@@ -293,12 +312,14 @@ step_there : (l : LineData) (c k : ℕ) → (c < l.degree) × (k < last_stage l)
 step_there l c k h = (h.0, omega (arith, h.1))
 
 given_span : (l : LineData) (p : Timetable) (P : Arc → Type 0) (a b : MoveId) (o : Option Span)
-    → ((span : Span) → o ≡ Some span → All P (ordered_moves l p a b (move_order l p a b span) (Some span))) → All P (spanned_moves l p a b o)
+    → ((span : Span) → o ≡ Some span → All P (ordered_moves l p a b (move_order l p a b span) (Some span)))
+    → All P (spanned_moves l p a b o)
 given_span l p P a b None h = All-nil P
 given_span l p P a b (Some span) h = h span refl
 
 pub move_arcs_all : (l : LineData) (p : Timetable) (P : Arc → Type 0) → 0 < last_stage l
-    → ((a b : MoveId) (span : Span) → Collide l p a b span → All P (ordered_moves l p a b (move_order l p a b span) (Some span))) → All P (move_arcs l p)
+    → ((a b : MoveId) (span : Span) → Collide l p a b span → All P (ordered_moves l p a b (move_order l p a b span) (Some span)))
+    → All P (move_arcs l p)
 move_arcs_all l p P some h =
     let n = last_stage l in
     rows_all P (λ i. rows_below (move_row l p i) (move_count l)) (move_count l)
@@ -316,10 +337,12 @@ move_arcs_all l p P some h =
     })))))
 
 pub move_arcs_kept : (l : LineData) (p : Timetable) (t : ℕ → ℤ) (g : ℕ) → 0 < last_stage l
-    → ((a b : MoveId) (span : Span) → Collide l p a b span → KeepsMoves l p t a b span) → All (Keeps t g) (move_arcs l p)
+    → ((a b : MoveId) (span : Span) → Collide l p a b span → KeepsMoves l p t a b span)
+    → All (Keeps t g) (move_arcs l p)
 move_arcs_kept l p t g some h = move_arcs_all l p (Keeps t g) some (λ a b span pair. moves_both l p t g a b span (h a b span pair))
 
-pub move_arcs_keep : (l : LineData) (p : Timetable) (t : ℕ → ℤ) (g : ℕ) → All (Keeps t g) (move_arcs l p) → (a b : MoveId) (span : Span)
+pub move_arcs_keep : (l : LineData) (p : Timetable) (t : ℕ → ℤ) (g : ℕ) → All (Keeps t g) (move_arcs l p)
+    → (a b : MoveId) (span : Span)
     → Collide l p a b span → KeepsMoves l p t a b span
 move_arcs_keep l p t g h a b span pair =
     let n = last_stage l in

@@ -38,22 +38,26 @@ turned_weight a n h le =
 
 -- ---- solutions
 
-same_keeps : (t : ℕ → ℤ) (g h : ℕ) (a b : Arc) → a.from ≡ b.from → a.to ≡ b.to → weight a g ≡ weight b h → Keeps t g a → Keeps t h b
+same_keeps : (t : ℕ → ℤ) (g h : ℕ) (a b : Arc) → a.from ≡ b.from → a.to ≡ b.to → weight a g ≡ weight b h → Keeps t g a
+    → Keeps t h b
 same_keeps t g h a b e f w k = omega (arith, ints, ap t e, ap t f, w, k)
 
 -- the system of arcs that are made from others one by one
 abbrev made : LineData → (Arc → Arc) → List Arc → SystemData
 made l f arcs = record { nodes = move_count l; arcs = map f arcs }
 
-solves_made : (l : LineData) (f : Arc → Arc) (arcs : List Arc) (t : ℕ → ℤ) (g h : ℕ) → ((a : Arc) → (f a).from ≡ a.from) → ((a : Arc) → (f a).to ≡ a.to)
+solves_made : (l : LineData) (f : Arc → Arc) (arcs : List Arc) (t : ℕ → ℤ) (g h : ℕ) → ((a : Arc) → (f a).from ≡ a.from)
+    → ((a : Arc) → (f a).to ≡ a.to)
     → ((a : Arc) → weight (f a) g ≡ weight a h) → All (Keeps t h) arcs → Solves (made l f arcs) g t
 solves_made l f arcs t g h from to same all k lt =
     let below : k < length arcs = omega (arith, lt, length-map arcs f) in
     let a = arc_at arcs k in
     let at : arc (made l f arcs) k ≡ f a = get_or-map f arcs k no_arc _ below in
-    subst (λ (b : Arc). Keeps t g b) (sym at) (same_keeps t h g a (f a) (sym (from a)) (sym (to a)) (sym (same a)) (All-get_or (Keeps t h) arcs k no_arc below all))
+    subst (λ (b : Arc). Keeps t g b) (sym at) (same_keeps t h g a (f a) (sym (from a)) (sym (to a)) (sym (same a))
+    (All-get_or (Keeps t h) arcs k no_arc below all))
 
-made_solves : (l : LineData) (f : Arc → Arc) (arcs : List Arc) (t : ℕ → ℤ) (g h : ℕ) → ((a : Arc) → (f a).from ≡ a.from) → ((a : Arc) → (f a).to ≡ a.to)
+made_solves : (l : LineData) (f : Arc → Arc) (arcs : List Arc) (t : ℕ → ℤ) (g h : ℕ) → ((a : Arc) → (f a).from ≡ a.from)
+    → ((a : Arc) → (f a).to ≡ a.to)
     → ((a : Arc) → weight (f a) g ≡ weight a h) → Solves (made l f arcs) g t → All (Keeps t h) arcs
 made_solves l f arcs t g h from to same solves =
     All-from_get_or (Keeps t h) arcs no_arc
@@ -63,30 +67,37 @@ made_solves l f arcs t g h from to same solves =
     let kept : Keeps t g (f a) = subst (λ (b : Arc). Keeps t g b) at (solves k (omega (arith, below, length-map arcs f))) in
     same_keeps t g h (f a) a (from a) (to a) (same a) kept)
 
-pub allows_kept : (l : LineData) (arcs : List Arc) (t : ℕ → ℤ) (h : ℕ) → All (Keeps t h) arcs → Solves (margin_system l arcs) (h + 1) t
+pub allows_kept : (l : LineData) (arcs : List Arc) (t : ℕ → ℤ) (h : ℕ) → All (Keeps t h) arcs
+    → Solves (margin_system l arcs) (h + 1) t
 allows_kept l arcs t h all = solves_made l from_one arcs t (h + 1) h (λ a. refl) (λ a. refl) (λ a. from_one_weight a h) all
 
-pub kept_allows : (l : LineData) (arcs : List Arc) (t : ℕ → ℤ) (h : ℕ) → Solves (margin_system l arcs) (h + 1) t → All (Keeps t h) arcs
+pub kept_allows : (l : LineData) (arcs : List Arc) (t : ℕ → ℤ) (h : ℕ) → Solves (margin_system l arcs) (h + 1) t
+    → All (Keeps t h) arcs
 kept_allows l arcs t h solves = made_solves l from_one arcs t (h + 1) h (λ a. refl) (λ a. refl) (λ a. from_one_weight a h) solves
 
-to_turned : (l : LineData) (arcs : List Arc) (n h : ℕ) → h ≤ n → Allows l arcs h → IsFeasible (turned_system l n arcs) (n - h)
+to_turned : (l : LineData) (arcs : List Arc) (n h : ℕ) → h ≤ n → Allows l arcs h
+    → IsFeasible (turned_system l n arcs) (n - h)
 to_turned l arcs n h le (t, solves) =
     (t, solves_made l (turned n) arcs t (n - h) h (λ a. refl) (λ a. refl) (λ a. turned_weight a n h le) (kept_allows l arcs t h solves))
 
-from_turned : (l : LineData) (arcs : List Arc) (n h : ℕ) → h ≤ n → IsFeasible (turned_system l n arcs) (n - h) → Allows l arcs h
+from_turned : (l : LineData) (arcs : List Arc) (n h : ℕ) → h ≤ n → IsFeasible (turned_system l n arcs) (n - h)
+    → Allows l arcs h
 from_turned l arcs n h le (t, solves) =
     (t, allows_kept l arcs t h (made_solves l (turned n) arcs t (n - h) h (λ a. refl) (λ a. refl) (λ a. turned_weight a n h le) solves))
 
 -- ---- the greatest margin
 
 -- a number of ticks that is taken from the period at most, and at least
-pub some_taken : (l : LineData) (period : ℕ) (arcs : List Arc) → AreBounded l period arcs → (period ≡ period - 0) × IsFeasible (turned_system l period arcs) period
+pub some_taken : (l : LineData) (period : ℕ) (arcs : List Arc) → AreBounded l period arcs
+    → (period ≡ period - 0) × IsFeasible (turned_system l period arcs) period
 some_taken l period arcs h =
     let e : period - 0 ≡ period = omega arith in
     (sym e, subst (λ (n : ℕ). IsFeasible (turned_system l period arcs) n) e (to_turned l arcs period 0 (omega arith) h.none))
 
-pub greatest_is : (l : LineData) (period taken : ℕ) (arcs : List Arc) → AreBounded l period arcs → 1 ≤ taken → taken < period + 1
-    → IsFeasible (turned_system l period arcs) taken → ((t : ℕ) → 1 ≤ t → t < taken → IsFeasible (turned_system l period arcs) t → ⊥)
+pub greatest_is : (l : LineData) (period taken : ℕ) (arcs : List Arc) → AreBounded l period arcs → 1 ≤ taken
+    → taken < period + 1
+    → IsFeasible (turned_system l period arcs) taken
+    → ((t : ℕ) → 1 ≤ t → t < taken → IsFeasible (turned_system l period arcs) t → ⊥)
     → IsGreatest l period arcs (period - taken)
 greatest_is l period taken arcs bounded some few feasible none =
     let e : period - (period - taken) ≡ taken = omega (arith, few) in

@@ -14,27 +14,33 @@ use Rattle.window_margin.specs.Systems.{arc_at}
 abbrev pub AreUpTo : (ℕ → Arc → Type 0) → ℕ → List Arc → Type 0
 AreUpTo P n xs = (length xs ≡ n) × ((j : ℕ) → j < n → P j (arc_at xs j))
 
-pub pushed : (P : ℕ → Arc → Type 0) (n : ℕ) (xs ys : List Arc) (a : Arc) → AreUpTo P n xs → P n a → ys ≡ xs ++ a ∷ [] → AreUpTo P (n + 1) ys
+pub pushed : (P : ℕ → Arc → Type 0) (n : ℕ) (xs ys : List Arc) (a : Arc) → AreUpTo P n xs → P n a → ys ≡ xs ++ a ∷ []
+    → AreUpTo P (n + 1) ys
 pushed P n xs ys a (count, each) last e = (
   omega (arith, ap (λ (zs : List Arc). length zs) e, length-append xs (a ∷ []), count),
   λ j lt.
       ⊎_elim
-      (λ below. subst (λ (x : Arc). P j x) (sym (ap (λ (zs : List Arc). arc_at zs j) e ∙ get_or_append_left xs (a ∷ []) no_arc j (omega (arith, below, count)))) (each j below))
+      (λ below. subst (λ (x : Arc). P j x) (sym (ap (λ (zs : List Arc). arc_at zs j) e
+      ∙ get_or_append_left xs (a ∷ []) no_arc j (omega (arith, below, count)))) (each j below))
       (λ past.
       let at : n ≡ j = omega (arith, lt, past) in
       let first : n - n ≡ 0 = omega arith in
-      let here : arc_at ys n ≡ a = ap (λ (zs : List Arc). arc_at zs n) e ∙ get_or-append_right xs (a ∷ []) n n no_arc count (omega arith) ∙ ap (λ (i : ℕ). get_or (a ∷ []) i no_arc) first in
+      let here : arc_at ys n ≡ a = ap (λ (zs : List Arc). arc_at zs n) e
+      ∙ get_or-append_right xs (a ∷ []) n n no_arc count (omega arith)
+      ∙ ap (λ (i : ℕ). get_or (a ∷ []) i no_arc) first in
       subst (λ (m : ℕ). P m (arc_at ys m)) at (subst (λ (x : Arc). P n x) (sym here) last))
       (cases_lt j n),
 )
 
-pub mapped : (f : Arc → Arc) (xs ys : List Arc) → length ys ≡ length xs → ((j : ℕ) → j < length xs → arc_at ys j ≡ f (arc_at xs j)) → ys ≡ map f xs
+pub mapped : (f : Arc → Arc) (xs ys : List Arc) → length ys ≡ length xs
+    → ((j : ℕ) → j < length xs → arc_at ys j ≡ f (arc_at xs j)) → ys ≡ map f xs
 mapped f xs ys count each =
     ext_get_or no_arc ys (map f xs) (count ∙ sym (length-map xs f))
     (λ j lt. let below : j < length xs = omega (arith, lt, count) in each j below ∙ sym (get_or-map f xs j no_arc no_arc below))
 
 pub system_made : (f : Arc → Arc) (l : LineData) (n k : ℕ) (arcs list : List Arc) (s : SystemData) → s ≡ record { nodes = n; arcs = list } → n ≡ move_count l
-    → k ≡ length arcs → AreUpTo (λ j a. a ≡ f (arc_at arcs j)) k list → s ≡ record { nodes = move_count l; arcs = map f arcs }
+    → k ≡ length arcs → AreUpTo (λ j a. a ≡ f (arc_at arcs j)) k list
+    → s ≡ record { nodes = move_count l; arcs = map f arcs }
 system_made f l n k arcs list s made nodes all (count, each) =
     let system : ℕ → List Arc → SystemData = λ m xs. record { nodes = m; arcs = xs } in
     let is : list ≡ map f arcs = mapped f arcs list (count ∙ all) (λ j lt. each j (omega (arith, lt, all))) in
@@ -49,7 +55,8 @@ abbrev pub AreNamed : LineData → List Arc → List ℕ → ℕ → List Margin
 AreNamed l arcs walk n xs =
     (length xs ≡ n) × ((j : ℕ) → j < n → get_or xs j (no_named l) ≡ named_arc l (arc_at arcs (get_or walk j 0)))
 
-pub named_more : (l : LineData) (arcs : List Arc) (walk : List ℕ) (n : ℕ) (xs ys : List MarginArc) (a : MarginArc) → AreNamed l arcs walk n xs
+pub named_more : (l : LineData) (arcs : List Arc) (walk : List ℕ) (n : ℕ) (xs ys : List MarginArc) (a : MarginArc)
+    → AreNamed l arcs walk n xs
     → a ≡ named_arc l (arc_at arcs (get_or walk n 0)) → ys ≡ xs ++ a ∷ [] → AreNamed l arcs walk (n + 1) ys
 named_more l arcs walk n xs ys a (count, each) last e = (
   omega (arith, ap (λ (zs : List MarginArc). length zs) e, length-append xs (a ∷ []), count),
@@ -65,7 +72,8 @@ named_more l arcs walk n xs ys a (count, each) last e = (
       (cases_lt j n),
 )
 
-pub all_named : (l : LineData) (arcs : List Arc) (walk : List ℕ) (n : ℕ) (xs : List MarginArc) → AreNamed l arcs walk n xs → n ≡ length walk
+pub all_named : (l : LineData) (arcs : List Arc) (walk : List ℕ) (n : ℕ) (xs : List MarginArc)
+    → AreNamed l arcs walk n xs → n ≡ length walk
     → xs ≡ named_walk l arcs walk
 all_named l arcs walk n xs (count, each) all =
     let f : ℕ → MarginArc = λ k. named_arc l (arc_at arcs k) in

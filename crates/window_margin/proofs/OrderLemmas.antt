@@ -56,7 +56,8 @@ least_periods w n some =
     fewer : (w a b c m : ℤ) → b ≡ c -ℤ m → a ≤ℤ b → w ≤ℤ a → (c -ℤ m) <ℤ w → ⊥
     fewer w a b c m e f g h = omega (arith, ints)
 
-pub same_least : (P Q : ℤ → Type 0) (q : ℤ) → ((z : ℤ) → P z → Q z) → ((z : ℤ) → Q z → P z) → IsLeastWhole P q → IsLeastWhole Q q
+pub same_least : (P Q : ℤ → Type 0) (q : ℤ) → ((z : ℤ) → P z → Q z) → ((z : ℤ) → Q z → P z) → IsLeastWhole P q
+    → IsLeastWhole Q q
 same_least P Q q to from h = record { holds = to q h.holds; least = λ z is. h.least z (from z is) }
 
 -- there is one
@@ -65,7 +66,8 @@ one_least P q r h k = omega (arith, ints, h.least r k.holds, k.least q h.holds)
 
 -- ---- orders
 
-pub visit_order_is : (l : LineData) (p : Timetable) (a b : VisitId) → 1 ≤ p.period → IsVisitOrder l p a b (visit_order l p a b)
+pub visit_order_is : (l : LineData) (p : Timetable) (a b : VisitId) → 1 ≤ p.period
+    → IsVisitOrder l p a b (visit_order l p a b)
 visit_order_is l p a b some =
     let e = end_tick l p a in
     let s = begin_tick l p b in
@@ -85,13 +87,15 @@ starts_at l p a b span z e h =
     let P : Option Span → Type 0 = λ o. IsSomeAnd o (λ s. s.after ≤ℤ offset_of l (ticks_of l p) p.period a b z) in
     subst P (sym e) h
 
-pub starts_from : (l : LineData) (p : Timetable) (a b : MoveId) (span : Span) (z : ℤ) → own_clash l p a b ≡ Some span → StartsAfter l p a b z
+pub starts_from : (l : LineData) (p : Timetable) (a b : MoveId) (span : Span) (z : ℤ) → own_clash l p a b ≡ Some span
+    → StartsAfter l p a b z
     → span.after ≤ℤ offset_of l (ticks_of l p) p.period a b z
 starts_from l p a b span z e h =
     let P : Option Span → Type 0 = λ o. IsSomeAnd o (λ s. s.after ≤ℤ offset_of l (ticks_of l p) p.period a b z) in
     subst P e h
 
-pub move_order_is : (l : LineData) (p : Timetable) (a b : MoveId) (span : Span) → 1 ≤ p.period → own_clash l p a b ≡ Some span
+pub move_order_is : (l : LineData) (p : Timetable) (a b : MoveId) (span : Span) → 1 ≤ p.period
+    → own_clash l p a b ≡ Some span
     → IsMoveOrder l p a b (move_order l p a b span)
 move_order_is l p a b span some e =
     let s = start_tick l p a in
@@ -108,8 +112,10 @@ move_order_is l p a b span some e =
 
 -- ---- what an order rules out
 
--- where a ends before b, q periods later, begins, and b, one period less later, before a begins, they never hold together
-pub never_together : (begin_a end_a begin_b end_b q z : ℤ) (n : ℕ) → end_a ≤ℤ (begin_b +ℤ q *ℤ pos n) → (end_b +ℤ (q -ℤ pos 1) *ℤ pos n) ≤ℤ begin_a
+-- where a ends before b, q periods later, begins, and b, one period less later, before a begins, they never hold
+-- together
+pub never_together : (begin_a end_a begin_b end_b q z : ℤ) (n : ℕ) → end_a ≤ℤ (begin_b +ℤ q *ℤ pos n)
+    → (end_b +ℤ (q -ℤ pos 1) *ℤ pos n) ≤ℤ begin_a
     → (begin_b +ℤ z *ℤ pos n) <ℤ end_a → begin_a <ℤ (end_b +ℤ z *ℤ pos n) → ⊥
 never_together begin_a end_a begin_b end_b q z n first second one two =
     by_lt_z z q

@@ -19,11 +19,13 @@ use Rattle.window_margin.specs.Arcs.{at_period, rows_below, ordered_visits, visi
 rows_more : (row : ℕ → List Arc) (n : ℕ) → rows_below row (n + 1) ≡ rows_below row n ++ row n
 rows_more row n = let e : n + 1 ≡ suc n = omega arith in ap (λ (k : ℕ). rows_below row k) e
 
-pub rows_step : (row : ℕ → List Arc) (n : ℕ) (xs ys zs : List Arc) → ys ≡ xs ++ rows_below row n → zs ≡ ys ++ row n → zs ≡ xs ++ rows_below row (n + 1)
+pub rows_step : (row : ℕ → List Arc) (n : ℕ) (xs ys zs : List Arc) → ys ≡ xs ++ rows_below row n → zs ≡ ys ++ row n
+    → zs ≡ xs ++ rows_below row (n + 1)
 rows_step row n xs ys zs e f = f ∙ ap (λ ws. ws ++ row n) e ∙ append_assoc xs (rows_below row n) (row n)
     ∙ ap (λ ws. xs ++ ws) (sym (rows_more row n))
 
-pub rows_done : (row : ℕ → List Arc) (m n : ℕ) (xs ys : List Arc) → m ≡ n → ys ≡ xs ++ rows_below row m → ys ≡ xs ++ rows_below row n
+pub rows_done : (row : ℕ → List Arc) (m n : ℕ) (xs ys : List Arc) → m ≡ n → ys ≡ xs ++ rows_below row m
+    → ys ≡ xs ++ rows_below row n
 rows_done row m n xs ys e f = f ∙ ap (λ (k : ℕ). xs ++ rows_below row k) e
 
 two_more : (xs ys zs : List Arc) (a b : Arc) → ys ≡ xs ++ a ∷ [] → zs ≡ ys ++ b ∷ [] → zs ≡ xs ++ (a ∷ b ∷ [])
@@ -34,15 +36,19 @@ two_more xs ys zs a b e f = f ∙ ap (λ ws. ws ++ b ∷ []) e ∙ append_assoc 
 abbrev moments : LineData → Moment → Moment → ℤ → ℕ → Arc
 moments l x y q n = at_period n (pos 0) (moment_arc l x y q)
 
-same_moments : (l : LineData) (x x' y y' : Moment) (q q' : ℤ) (n n' : ℕ) → x ≡ x' → y ≡ y' → q ≡ q' → n ≡ n' → moments l x y q n ≡ moments l x' y' q' n'
+same_moments : (l : LineData) (x x' y y' : Moment) (q q' : ℤ) (n n' : ℕ) → x ≡ x' → y ≡ y' → q ≡ q' → n ≡ n'
+    → moments l x y q n ≡ moments l x' y' q' n'
 same_moments l x x' y y' q q' n n' e f g h =
     ap (λ (m : Moment). moments l m y q n) e ∙ ap (λ (m : Moment). moments l x' m q n) f ∙ ap (λ (z : ℤ). moments l x' y' z n) g
     ∙ ap (λ (k : ℕ). moments l x' y' q' k) h
 
 pub visits_more : (l : LineData) (p : Timetable) (a b : VisitId) (x y x' y' : Moment) (q r : ℤ) (n : ℕ) (u v : Arc) (xs ys zs : List Arc)
-    → p.tank a.carrier a.stage ≡ p.tank b.carrier b.stage → x ≡ end_of l (durations_of l p) a.carrier a.stage → y ≡ begin_of l (durations_of l p) b.carrier b.stage
-    → x' ≡ end_of l (durations_of l p) b.carrier b.stage → y' ≡ begin_of l (durations_of l p) a.carrier a.stage → q ≡ visit_order l p a b
-    → r ≡ neg_ℤ (q -ℤ pos 1) → n ≡ p.period → u ≡ at_period n (pos 0) (moment_arc l x y q) → v ≡ at_period n (pos 0) (moment_arc l x' y' r)
+    → p.tank a.carrier a.stage ≡ p.tank b.carrier b.stage → x ≡ end_of l (durations_of l p) a.carrier a.stage
+    → y ≡ begin_of l (durations_of l p) b.carrier b.stage
+    → x' ≡ end_of l (durations_of l p) b.carrier b.stage → y' ≡ begin_of l (durations_of l p) a.carrier a.stage
+    → q ≡ visit_order l p a b
+    → r ≡ neg_ℤ (q -ℤ pos 1) → n ≡ p.period → u ≡ at_period n (pos 0) (moment_arc l x y q)
+    → v ≡ at_period n (pos 0) (moment_arc l x' y' r)
     → ys ≡ xs ++ u ∷ [] → zs ≡ ys ++ v ∷ [] → zs ≡ xs ++ visit_pair l p a b
 visits_more l p a b x y x' y' q r n u v xs ys zs same ex ey ex' ey' eq er en eu ev e f =
     let d = durations_of l p in
@@ -51,11 +57,14 @@ visits_more l p a b x y x' y' q r n u v xs ys zs same ex ey ex' ey' eq er en eu 
     let first = eu ∙ same_moments l x (end_of l d a.carrier a.stage) y (begin_of l d b.carrier b.stage) q o n p.period ex ey eq en in
     let back = er ∙ ap (λ (z : ℤ). neg_ℤ (z -ℤ pos 1)) eq in
     let second = ev ∙ same_moments l x' (end_of l d b.carrier b.stage) y' (begin_of l d a.carrier a.stage) r (neg_ℤ (o -ℤ pos 1)) n p.period ex' ey' back en in
-    let pair : u ∷ v ∷ [] ≡ L = ap (λ (w : Arc). w ∷ v ∷ []) first ∙ ap (λ (w : Arc). moments l (end_of l d a.carrier a.stage) (begin_of l d b.carrier b.stage) o p.period ∷ w ∷ []) second in
+    let pair : u ∷ v ∷ [] ≡ L = ap (λ (w : Arc). w ∷ v ∷ []) first
+    ∙ ap (λ (w : Arc). moments l (end_of l d a.carrier a.stage)
+    (begin_of l d b.carrier b.stage) o p.period ∷ w ∷ []) second in
     let taken : visit_pair l p a b ≡ L = ap (λ (t : Bool). cond t L []) (eq-eqb (p.tank a.carrier a.stage) (p.tank b.carrier b.stage) same) in
     two_more xs ys zs u v e f ∙ ap (λ (ws : List Arc). xs ++ ws) (pair ∙ sym taken)
 
-pub no_visits : (l : LineData) (p : Timetable) (a b : VisitId) (xs : List Arc) → (p.tank a.carrier a.stage ≡ p.tank b.carrier b.stage → ⊥)
+pub no_visits : (l : LineData) (p : Timetable) (a b : VisitId) (xs : List Arc)
+    → (p.tank a.carrier a.stage ≡ p.tank b.carrier b.stage → ⊥)
     → xs ≡ xs ++ visit_pair l p a b
 no_visits l p a b xs differ =
     let left : visit_pair l p a b ≡ [] = ap (λ (t : Bool). cond t (ordered_visits l p a b (visit_order l p a b)) [])
@@ -68,7 +77,8 @@ no_row i j pair xs le = sym (append-nil xs) ∙ ap (λ (t : Bool). xs ++ cond t 
 -- ---- moves
 
 pub moves_more : (l : LineData) (p : Timetable) (a b : MoveId) (span : Span) (q : ℤ) (n : ℕ) (u v : Arc) (xs ys zs : List Arc)
-    → own_clash l p a b ≡ Some span → q ≡ move_order l p a b span → n ≡ p.period → u ≡ at_period n (pos 0) (span_arc l a b q 0 (Some span))
+    → own_clash l p a b ≡ Some span → q ≡ move_order l p a b span → n ≡ p.period
+    → u ≡ at_period n (pos 0) (span_arc l a b q 0 (Some span))
     → v ≡ at_period n (pos 0) (span_arc l a b (q -ℤ pos 1) 1 (Some span))
     → ys ≡ xs ++ u ∷ [] → zs ≡ ys ++ v ∷ [] → zs ≡ xs ++ move_pair l p a b
 moves_more l p a b span q n u v xs ys zs clash eq en eu ev e f =

@@ -51,12 +51,14 @@ pub record SameMoves (l : LineData) (p s : Timetable) : Type 0 where
 pub sibling_same : (l : LineData) (p s : Timetable) → IsSibling l p s → SameMoves l p s
 sibling_same l p s sib = record { period = sib.period; hoists = sib.hoists; tanks = sib.tanks }
 
-pub motion_same : (l : LineData) (p s : Timetable) (c k : ℕ) → SameMoves l p s → IsMove l c k → motion l s c k ≡ motion l p c k
+pub motion_same : (l : LineData) (p s : Timetable) (c k : ℕ) → SameMoves l p s → IsMove l c k
+    → motion l s c k ≡ motion l p c k
 motion_same l p s c k same move =
     ap (λ (i : ℕ). motion_between l k i (s.tank c (k + 1))) (same.tanks c k (visit_before l c k move))
     ∙ ap (λ (j : ℕ). motion_between l k (p.tank c k) j) (same.tanks c (k + 1) (visit_after l c k move))
 
-pub lasts_same : (l : LineData) (p s : Timetable) (c k : ℕ) → SameMoves l p s → IsMove l c k → durations_of l s c k ≡ durations_of l p c k
+pub lasts_same : (l : LineData) (p s : Timetable) (c k : ℕ) → SameMoves l p s → IsMove l c k
+    → durations_of l s c k ≡ durations_of l p c k
 lasts_same l p s c k same move = ap (λ (m : Motion). duration m) (motion_same l p s c k same move)
 
 pub begin_is : (l : LineData) (p s : Timetable) (v : VisitId) → SameMoves l p s → IsVisit l v.carrier v.stage
@@ -74,19 +76,22 @@ end_is l p s v line same visit =
 ride : Motion → ℕ → Ride
 ride m h = record { motion = m; hoist = h }
 
-pub ride_same : (l : LineData) (p s : Timetable) (c k : ℕ) → SameMoves l p s → IsMove l c k → ride_of l s c k ≡ ride_of l p c k
+pub ride_same : (l : LineData) (p s : Timetable) (c k : ℕ) → SameMoves l p s → IsMove l c k
+    → ride_of l s c k ≡ ride_of l p c k
 unfolding ride
 ride_same l p s c k same move =
     ap (λ (m : Motion). ride m (s.hoist c k)) (motion_same l p s c k same move) ∙ ap (λ (h : ℕ). ride (motion l p c k) h) (same.hoists c k move)
 
-pub clash_same : (l : LineData) (p s : Timetable) (a b : MoveId) → SameMoves l p s → IsMove l a.carrier a.step → IsMove l b.carrier b.step
+pub clash_same : (l : LineData) (p s : Timetable) (a b : MoveId) → SameMoves l p s → IsMove l a.carrier a.step
+    → IsMove l b.carrier b.step
     → own_clash l s a b ≡ own_clash l p a b
 clash_same l p s a b same move move' =
     ap (λ (r : Ride). clash_between l r (ride_of l s b.carrier b.step)) (ride_same l p s a.carrier a.step same move)
     ∙ ap (λ (r : Ride). clash_between l (ride_of l p a.carrier a.step) r) (ride_same l p s b.carrier b.step same move')
 
 -- they meet the same decisions on tanks and hoists
-meets_one : (l : LineData) (path : List Decision) (p s : Timetable) (q : Question) (child : ℕ) → SameMoves l p s → (IsOrder q → ⊥) → Stands l path q
+meets_one : (l : LineData) (path : List Decision) (p s : Timetable) (q : Question) (child : ℕ) → SameMoves l p s
+    → (IsOrder q → ⊥) → Stands l path q
     → Meets l p q child → Meets l s q child
 meets_one l path p s (Assign m) child same none stands h =
     subst (λ (x : Motion). slice_get (hoists_reaching l x) child ≡ Some (s.hoist m.carrier m.step)) (sym (motion_same l p s m.carrier m.step same stands.move))
@@ -95,18 +100,21 @@ meets_one l path p s (TankOrder a b q) child same none stands h = absurd (none t
 meets_one l path p s (HoistOrder a b q) child same none stands h = absurd (none tt)
 meets_one l path p s (Choose v) child same none stands h = h ∙ ap (λ (x : ℕ). Some x) (sym (same.tanks v.carrier v.stage stands.visit))
 
-pub meets_same : (l : LineData) (path : List Decision) (p s : Timetable) → IsChosen l p path → SameMoves l p s → MeetsPath l s path
+pub meets_same : (l : LineData) (path : List Decision) (p s : Timetable) → IsChosen l p path → SameMoves l p s
+    → MeetsPath l s path
 meets_same l path p s chosen same i lt =
     meets_one l (take i path) p s (decision_at path i).question (decision_at path i).child same
     (All-get_or (λ (d : Decision). IsOrder d.question → ⊥) path i _ lt chosen.free) (chosen.fits i lt).question.stands (chosen.meets i lt)
 
 -- ---- what the path settles
 
-pub low_own : (l : LineData) (path : List Decision) (p : Timetable) (c k : ℕ) → IsChosen l p path → IsMove l c k → low l path c k ≡ durations_of l p c k
+pub low_own : (l : LineData) (path : List Decision) (p : Timetable) (c k : ℕ) → IsChosen l p path → IsMove l c k
+    → low l path c k ≡ durations_of l p c k
 low_own l path p c k chosen move =
     low_is l path c k (p.tank c k) (p.tank c (k + 1)) (chosen.tanks c k (visit_before l c k move)) (chosen.tanks c (k + 1) (visit_after l c k move))
 
-pub high_own : (l : LineData) (path : List Decision) (p : Timetable) (c k : ℕ) → IsChosen l p path → IsMove l c k → high l path c k ≡ durations_of l p c k
+pub high_own : (l : LineData) (path : List Decision) (p : Timetable) (c k : ℕ) → IsChosen l p path → IsMove l c k
+    → high l path c k ≡ durations_of l p c k
 high_own l path p c k chosen move =
     high_is l path c k (p.tank c k) (p.tank c (k + 1)) (chosen.tanks c k (visit_before l c k move)) (chosen.tanks c (k + 1) (visit_after l c k move))
 
@@ -114,18 +122,21 @@ some_ride : (o : Option Ride) (h : ℕ) → option_map (λ (r : Ride). r.hoist) 
 some_ride None h e = cc
 some_ride (Some r) h e = (r, refl)
 
-pub ride_chosen : (l : LineData) (path : List Decision) (p : Timetable) (c k : ℕ) → IsLegal l p → IsChosen l p path → IsMove l c k
+pub ride_chosen : (l : LineData) (path : List Decision) (p : Timetable) (c k : ℕ) → IsLegal l p → IsChosen l p path
+    → IsMove l c k
     → ride_below l path c k ≡ Some (ride_of l p c k)
 ride_chosen l path p c k legal chosen move =
     let r = some_ride (ride_below l path c k) (p.hoist c k) (chosen.hoists c k move) in
     r.1 ∙ ap (λ (x : Ride). Some x) (ride_settled l path p c k r.0 legal chosen.meets move r.1)
 
-pub clash_chosen : (l : LineData) (path : List Decision) (p : Timetable) (a b : MoveId) → IsLegal l p → IsChosen l p path → IsMove l a.carrier a.step
+pub clash_chosen : (l : LineData) (path : List Decision) (p : Timetable) (a b : MoveId) → IsLegal l p
+    → IsChosen l p path → IsMove l a.carrier a.step
     → IsMove l b.carrier b.step → clash_below l path a b ≡ own_clash l p a b
 clash_chosen l path p a b legal chosen move move' =
     ap (λ (o : Option Ride). option_and_then (λ (x : Ride). option_and_then (λ (y : Ride). clash_between l x y) (ride_below l path b.carrier b.step)) o)
     (ride_chosen l path p a.carrier a.step legal chosen move)
-    ∙ ap (λ (o : Option Ride). option_and_then (λ (y : Ride). clash_between l (ride_of l p a.carrier a.step) y) o) (ride_chosen l path p b.carrier b.step legal chosen move')
+    ∙ ap (λ (o : Option Ride). option_and_then (λ (y : Ride). clash_between l (ride_of l p a.carrier a.step) y) o)
+    (ride_chosen l path p b.carrier b.step legal chosen move')
 
 -- ---- the constraints that stand on every path
 
@@ -139,8 +150,10 @@ given_max : (o : Option ℕ) (P : ℕ → Type 0) → IsSome o → IfSome o P �
 given_max None P some h = cc
 given_max (Some m) P some h = h
 
-min_kept : (l : LineData) (path : List Decision) (p s : Timetable) (h c k : ℕ) → IsChosen l p path → SameMoves l p s → HasMargin l s h
-    → (c < l.degree) × (1 ≤ k) × (k ≤ last_step l) → Keeps (ticks_of l s) h (at_period p.period (pos 1) (min_arc l path c k))
+min_kept : (l : LineData) (path : List Decision) (p s : Timetable) (h c k : ℕ) → IsChosen l p path → SameMoves l p s
+    → HasMargin l s h
+    → (c < l.degree) × (1 ≤ k) × (k ≤ last_step l)
+    → Keeps (ticks_of l s) h (at_period p.period (pos 1) (min_arc l path c k))
 min_kept l path p s h c k chosen same margin is =
     let here : IsMove l c (k - 1 + 1) = (is.0, omega (arith, is.1, is.2)) in
     let before : IsMove l c (k - 1) = (is.0, omega (arith, is.1, is.2)) in
@@ -152,12 +165,15 @@ min_kept l path p s h c k chosen same margin is =
     (low_own l path p c (k - 1) chosen before ∙ sym (lasts_same l p s c (k - 1) same before)) (omega (arith, ints)) (omega (arith, ints))
     (subst P e (margin.least c (k - 1) here))
   where
-    there : (t t' : ℤ) (a b d d' m h : ℕ) (none share : ℤ) → t ≡ pos a → t' ≡ pos b → d ≡ d' → none ≡ pos 0 → share ≡ pos h → a + d' + (m + h) ≤ b
+    there : (t t' : ℤ) (a b d d' m h : ℕ) (none share : ℤ) → t ≡ pos a → t' ≡ pos b → d ≡ d' → none ≡ pos 0
+        → share ≡ pos h → a + d' + (m + h) ≤ b
         → (t +ℤ ((pos (d + m) +ℤ none) +ℤ share)) ≤ℤ t'
     there t t' a b d d' m h none share e f g n s le = omega (arith, ints, e, f, g, n, s, le)
 
-max_kept : (l : LineData) (path : List Decision) (p s : Timetable) (h c k : ℕ) → IsChosen l p path → SameMoves l p s → HasMargin l s h
-    → (c < l.degree) × (1 ≤ k) × (k ≤ last_step l) × IsSome (stage l k).max → Keeps (ticks_of l s) h (at_period p.period (pos 1) (max_arc l path c k))
+max_kept : (l : LineData) (path : List Decision) (p s : Timetable) (h c k : ℕ) → IsChosen l p path → SameMoves l p s
+    → HasMargin l s h
+    → (c < l.degree) × (1 ≤ k) × (k ≤ last_step l) × IsSome (stage l k).max
+    → Keeps (ticks_of l s) h (at_period p.period (pos 1) (max_arc l path c k))
 max_kept l path p s h c k chosen same margin is =
     let here : IsMove l c (k - 1 + 1) = (is.0, omega (arith, is.1, is.2)) in
     let before : IsMove l c (k - 1) = (is.0, omega (arith, is.1, is.2)) in
@@ -169,11 +185,13 @@ max_kept l path p s h c k chosen same margin is =
     (high_own l path p c (k - 1) chosen before ∙ sym (lasts_same l p s c (k - 1) same before)) (omega (arith, ints)) (omega (arith, ints))
     (given_max (stage l k).max (λ m. s.start c k + h ≤ s.start c (k - 1) + durations_of l s c (k - 1) + m) is.3 (subst P e (margin.greatest c (k - 1) here)))
   where
-    there : (t t' : ℤ) (a b d d' m h : ℕ) (none share : ℤ) → t ≡ pos a → t' ≡ pos b → d ≡ d' → none ≡ pos 0 → share ≡ pos h → b + h ≤ a + d' + m
+    there : (t t' : ℤ) (a b d d' m h : ℕ) (none share : ℤ) → t ≡ pos a → t' ≡ pos b → d ≡ d' → none ≡ pos 0
+        → share ≡ pos h → b + h ≤ a + d' + m
         → (t' +ℤ ((neg_ℤ (pos (d + m)) +ℤ none) +ℤ share)) ≤ℤ t
     there t t' a b d d' m h none share e f g n s le = omega (arith, ints, e, f, g, n, s, le)
 
-undecided_kept : (l : LineData) (path : List Decision) (p s : Timetable) (h : ℕ) (t : Constraint) → IsChosen l p path → SameMoves l p s → HasMargin l s h
+undecided_kept : (l : LineData) (path : List Decision) (p s : Timetable) (h : ℕ) (t : Constraint) → IsChosen l p path
+    → SameMoves l p s → HasMargin l s h
     → IsConstraint l path t → Keeps (ticks_of l s) p.period (arc_of l path t)
     → Keeps (ticks_of l s) h (at_period p.period (share_of t) (arc_of l path t))
 undecided_kept l path p s h (Min c k) chosen same margin is kept = min_kept l path p s h c k chosen same margin is
@@ -188,20 +206,26 @@ undecided_kept l path p s h (Decided i) chosen same margin is kept = unshared (t
 differ : (c k c' k' : ℕ) (q : ℤ) → IsBefore c k c' k' → (c ≡ c') × (k ≡ k') × (q ≡ pos 0) → ⊥
 differ c k c' k' q before (e, f, g) = ⊎_elim (λ lt. omega (arith, lt, e)) (λ s. omega (arith, s.1, f)) before
 
-visits_kept : (l : LineData) (p s : Timetable) (a b : VisitId) → IsLine l → 1 ≤ p.period → IsSibling l p s → UseOneTank l p a b
+visits_kept : (l : LineData) (p s : Timetable) (a b : VisitId) → IsLine l → 1 ≤ p.period → IsSibling l p s
+    → UseOneTank l p a b
     → KeepsVisits l p (ticks_of l s) a b
 visits_kept l p s a b line some sib pair =
     let t = ticks_of l s in
     let same = sibling_same l p s sib in
     let q = visit_order l p a b in
     let order = sib.visits a b q pair (visit_order_is l p a b some) in
-    let ea : end_tick l s a ≡ tick_of l t (end_of l (durations_of l p) a.carrier a.stage) = ap (λ (m : Moment). tick_of l t m) (end_is l p s a line same pair.first) in
-    let eb : end_tick l s b ≡ tick_of l t (end_of l (durations_of l p) b.carrier b.stage) = ap (λ (m : Moment). tick_of l t m) (end_is l p s b line same pair.second) in
-    let ba : begin_tick l s a ≡ tick_of l t (begin_of l (durations_of l p) a.carrier a.stage) = ap (λ (m : Moment). tick_of l t m) (begin_is l p s a same pair.first) in
-    let bb : begin_tick l s b ≡ tick_of l t (begin_of l (durations_of l p) b.carrier b.stage) = ap (λ (m : Moment). tick_of l t m) (begin_is l p s b same pair.second) in
+    let ea : end_tick l s a ≡ tick_of l t (end_of l (durations_of l p) a.carrier a.stage) = ap
+    (λ (m : Moment). tick_of l t m) (end_is l p s a line same pair.first) in
+    let eb : end_tick l s b ≡ tick_of l t (end_of l (durations_of l p) b.carrier b.stage) = ap
+    (λ (m : Moment). tick_of l t m) (end_is l p s b line same pair.second) in
+    let ba : begin_tick l s a ≡ tick_of l t (begin_of l (durations_of l p) a.carrier a.stage) = ap
+    (λ (m : Moment). tick_of l t m) (begin_is l p s a same pair.first) in
+    let bb : begin_tick l s b ≡ tick_of l t (begin_of l (durations_of l p) b.carrier b.stage) = ap
+    (λ (m : Moment). tick_of l t m) (begin_is l p s b same pair.second) in
     let n : q *ℤ pos s.period ≡ q *ℤ pos p.period = ap (λ (m : ℕ). q *ℤ pos m) sib.period in
     let n' : (q -ℤ pos 1) *ℤ pos s.period ≡ (q -ℤ pos 1) *ℤ pos p.period = ap (λ (m : ℕ). (q -ℤ pos 1) *ℤ pos m) sib.period in
-    let tanks : s.tank a.carrier a.stage ≡ s.tank b.carrier b.stage = sib.tanks a.carrier a.stage pair.first ∙ pair.tank ∙ sym (sib.tanks b.carrier b.stage pair.second) in (
+    let tanks : s.tank a.carrier a.stage ≡ s.tank b.carrier b.stage = sib.tanks a.carrier a.stage pair.first ∙ pair.tank
+    ∙ sym (sib.tanks b.carrier b.stage pair.second) in (
       at (end_tick l s a) _ (begin_tick l s b) _ (q *ℤ pos s.period) _ ea bb n order.holds,
       ⊎_elim
           (λ early. let le = order.least (q -ℤ pos 1) early in absurd (omega (arith, ints, le)))
@@ -216,7 +240,8 @@ visits_kept l p s a b line some sib pair =
     at' : (e e' b b' u u' : ℤ) → e ≡ e' → b ≡ b' → u ≡ u' → (e +ℤ u) ≤ℤ b → (e' +ℤ u') ≤ℤ b'
     at' e e' b b' u u' f g h le = omega (arith, ints, f, g, h, le)
 
-pub can_collide : (l : LineData) (p : Timetable) (a b : MoveId) (span : Span) → Collide l p a b span → CanCollide l p a b
+pub can_collide : (l : LineData) (p : Timetable) (a b : MoveId) (span : Span) → Collide l p a b span
+    → CanCollide l p a b
 can_collide l p a b span pair =
     record { first = pair.first; second = pair.second; before = pair.before; clash = some_of (own_clash l p a b) span pair.clash }
   where
@@ -224,7 +249,8 @@ can_collide l p a b span pair =
     some_of None x e = cc
     some_of (Some y) x e = refl
 
-pub may_clash : (l : LineData) (path : List Decision) (p : Timetable) (a b : MoveId) (span : Span) → IsLegal l p → IsChosen l p path → Collide l p a b span
+pub may_clash : (l : LineData) (path : List Decision) (p : Timetable) (a b : MoveId) (span : Span) → IsLegal l p
+    → IsChosen l p path → Collide l p a b span
     → MayClash l path a b
 may_clash l path p a b span legal chosen pair =
     record {
@@ -235,7 +261,8 @@ may_clash l path p a b span legal chosen pair =
           (can_collide l p a b span pair).clash;
     }
 
-second_move : (l : LineData) (s : Timetable) (a b : MoveId) (q : ℤ) (span : Span) (child : ℕ) → own_clash l s a b ≡ Some span
+second_move : (l : LineData) (s : Timetable) (a b : MoveId) (q : ℤ) (span : Span) (child : ℕ)
+    → own_clash l s a b ≡ Some span
     → (span.after ≤ℤ offset_of l (ticks_of l s) s.period a b q → ⊥) → Meets l s (HoistOrder a b q) child
     → span.before ≤ℤ neg_ℤ (offset_of l (ticks_of l s) s.period a b q)
 second_move l s a b q span zero e none h =
@@ -245,7 +272,8 @@ second_move l s a b q span (suc zero) e none h =
 second_move l s a b q span (suc (suc child)) e none h =
     let P : Option Span → Type 0 = λ o. IsSomeAnd o (λ x. MeetsSpan x (offset_of l (ticks_of l s) s.period a b q) (suc (suc child))) in absurd (subst P e h)
 
-moves_kept : (l : LineData) (path : List Decision) (p s : Timetable) (a b : MoveId) (span : Span) → IsLine l → 1 ≤ p.period → IsLegal l p
+moves_kept : (l : LineData) (path : List Decision) (p s : Timetable) (a b : MoveId) (span : Span) → IsLine l
+    → 1 ≤ p.period → IsLegal l p
     → IsChosen l p path → IsSibling l p s → Collide l p a b span → KeepsMoves l p (ticks_of l s) a b span
 moves_kept l path p s a b span line some legal chosen sib pair =
     let t = ticks_of l s in
@@ -255,7 +283,8 @@ moves_kept l path p s a b span line some legal chosen sib pair =
     let own : own_clash l s a b ≡ Some span = clash_same l p s a b same pair.first pair.second ∙ pair.clash in
     let P : ℕ → Type 0 = λ m. span.after ≤ℤ offset_of l t m a b q in
     let Q : ℕ → Type 0 = λ m. span.before ≤ℤ neg_ℤ (offset_of l t m a b (q -ℤ pos 1)) in
-    let child = meets_child l path s (HoistOrder a b (q -ℤ pos 1)) line sib.legal (meets_same l path p s chosen same) (may_clash l path p a b span legal chosen pair) in (
+    let child = meets_child l path s (HoistOrder a b (q -ℤ pos 1)) line sib.legal (meets_same l path p s chosen same)
+    (may_clash l path p a b span legal chosen pair) in (
       subst P sib.period (starts_from l s a b span q own order.holds),
       subst Q sib.period
           (second_move l s a b (q -ℤ pos 1) span child.0 own
@@ -264,7 +293,8 @@ moves_kept l path p s a b span line some legal chosen sib pair =
 
 -- ---- all
 
-pub sibling_keeps : (l : LineData) (path : List Decision) (p s : Timetable) (h : ℕ) → IsLine l → 1 ≤ p.period → IsLegal l p → IsChosen l p path
+pub sibling_keeps : (l : LineData) (path : List Decision) (p s : Timetable) (h : ℕ) → IsLine l → 1 ≤ p.period
+    → IsLegal l p → IsChosen l p path
     → IsSibling l p s → HasMargin l s h → All (Keeps (ticks_of l s) h) (margin_arcs l p path)
 sibling_keeps l path p s h line some legal chosen sib margin =
     let t = ticks_of l s in

@@ -1,4 +1,5 @@
--- Ticks that meet the constraints of a margin leave no order open, and a legal timetable that starts its moves by them is a sibling with it.
+-- Ticks that meet the constraints of a margin leave no order open, and a legal timetable that starts its moves by them
+-- is a sibling with it.
 use Rattle.std.proofs.Common.{⊎_elim, ◌≡◌, ℕ, ◌+◌, ◌-◌, ◌≤◌, List, ◌++◌, get_or, map, All, refl, sym, ◌∙◌, ap, subst, arith, ℤ, pos, ◌+ℤ◌, ◌-ℤ◌, ◌*ℤ◌, neg_ℤ, ◌≤ℤ◌, ◌<ℤ◌, Some, None, Bool, cond, true, false, eq-eqb}
 use Rattle.std.specs.Prelude.{Option, IsSome, IfSome, IsSomeAnd, unwrap_or, ◌==◌}
 use Rattle.std.proofs.lemmas.Int.{ints, by_lt_z}
@@ -45,8 +46,10 @@ use Rattle.window_margin.proofs.SiblingLemmas.{SameMoves, lasts_same, begin_is, 
 -- ---- the constraints that stand on every path
 
 -- a constraint with its share, by its name
-pub shared_kept : (l : LineData) (path : List Decision) (p : Timetable) (t : ℕ → ℤ) (g : ℕ) (x : Constraint) → IsLine l → IsChosen l p path
-    → All (Keeps t g) (margin_arcs l p path) → IsConstraint l path x → Keeps t g (at_period p.period (share_of x) (arc_of l path x))
+pub shared_kept : (l : LineData) (path : List Decision) (p : Timetable) (t : ℕ → ℤ) (g : ℕ) (x : Constraint) → IsLine l
+    → IsChosen l p path
+    → All (Keeps t g) (margin_arcs l p path) → IsConstraint l path x
+    → Keeps t g (at_period p.period (share_of x) (arc_of l path x))
 shared_kept l path p t g x line chosen all is =
     let u = undecided_list l in
     let f : Constraint → Arc = λ y. at_period p.period (share_of y) (arc_of l path y) in
@@ -57,7 +60,8 @@ shared_kept l path p t g x line chosen all is =
     let at : get_or (map f u) r.0 no_arc ≡ f x = get_or-map f u r.0 (Entry 0) no_arc r.1 ∙ ap f r.2 in
     subst (λ (a : Arc). Keeps t g a) at (All-get_or (Keeps t g) (map f u) r.0 no_arc (omega (arith, r.1, length-map u f)) first)
 
-plain : (t : ℕ → ℤ) (g n : ℕ) (share : ℤ) (a : Arc) → pos 0 ≤ℤ (share *ℤ pos g) → Keeps t g (at_period n share a) → Keeps t n a
+plain : (t : ℕ → ℤ) (g n : ℕ) (share : ℤ) (a : Arc) → pos 0 ≤ℤ (share *ℤ pos g) → Keeps t g (at_period n share a)
+    → Keeps t n a
 plain t g n share a some h = there (t a.from) (t a.to) (a.w +ℤ a.q *ℤ pos n) (share *ℤ pos g) some h
   where
     there : (s s' w more : ℤ) → pos 0 ≤ℤ more → (s +ℤ (w +ℤ more)) ≤ℤ s' → (s +ℤ w) ≤ℤ s'
@@ -71,21 +75,24 @@ share_some (Visit c k) g = omega (arith, ints)
 share_some (Repeat c k) g = omega (arith, ints)
 share_some (Decided i) g = omega (arith, ints)
 
-pub undecided_met : (l : LineData) (path : List Decision) (p : Timetable) (t : ℕ → ℤ) (g : ℕ) (x : Constraint) → IsLine l → IsChosen l p path
+pub undecided_met : (l : LineData) (path : List Decision) (p : Timetable) (t : ℕ → ℤ) (g : ℕ) (x : Constraint)
+    → IsLine l → IsChosen l p path
     → All (Keeps t g) (margin_arcs l p path) → IsConstraint l path x → Keeps t p.period (arc_of l path x)
 undecided_met l path p t g x line chosen all is =
     plain t g p.period (share_of x) (arc_of l path x) (share_some x g) (shared_kept l path p t g x line chosen all is)
 
 -- ---- no order fails
 
-pub orders_visits : (l : LineData) (path : List Decision) (p : Timetable) (t : ℕ → ℤ) (g : ℕ) → All (Keeps t g) (margin_arcs l p path) → (a b : VisitId)
+pub orders_visits : (l : LineData) (path : List Decision) (p : Timetable) (t : ℕ → ℤ) (g : ℕ)
+    → All (Keeps t g) (margin_arcs l p path) → (a b : VisitId)
     → UseOneTank l p a b → KeepsVisits l p t a b
 orders_visits l path p t g all a b pair =
     let K : Arc → Type 0 = Keeps t g in
     let rest = (split_all K (undecided_arcs l path p.period) (visit_arcs l p ++ move_arcs l p) all).1 in
     visit_arcs_keep l p t g (split_all K (visit_arcs l p) (move_arcs l p) rest).0 a b pair
 
-pub orders_moves : (l : LineData) (path : List Decision) (p : Timetable) (t : ℕ → ℤ) (g : ℕ) → All (Keeps t g) (margin_arcs l p path) → (a b : MoveId) (span : Span)
+pub orders_moves : (l : LineData) (path : List Decision) (p : Timetable) (t : ℕ → ℤ) (g : ℕ)
+    → All (Keeps t g) (margin_arcs l p path) → (a b : MoveId) (span : Span)
     → Collide l p a b span → KeepsMoves l p t a b span
 orders_moves l path p t g all a b span pair =
     let K : Arc → Type 0 = Keeps t g in
@@ -96,11 +103,14 @@ same_some : (o : Option ℕ) (x y : ℕ) → o ≡ Some x → o ≡ Some y → x
 same_some None x y e f = cc
 same_some (Some z) x y e f = cc
 
-tank_fails : (l : LineData) (path : List Decision) (p : Timetable) (t : ℕ → ℤ) (g : ℕ) (a b : VisitId) (z : ℤ) → IsLine l → IsLegal l p → IsChosen l p path
+tank_fails : (l : LineData) (path : List Decision) (p : Timetable) (t : ℕ → ℤ) (g : ℕ) (a b : VisitId) (z : ℤ)
+    → IsLine l → IsLegal l p → IsChosen l p path
     → All (Keeps t g) (margin_arcs l p path) → ShareTank l path a b → Fails l path t p.period (TankOrder a b z) → ⊥
 tank_fails l path p t g a b z line legal chosen all s fails =
-    let ta : s.tank ≡ p.tank a.carrier a.stage = same_some (tank_below l path a.carrier a.stage) s.tank _ s.first_tank (chosen.tanks a.carrier a.stage s.first) in
-    let tb : s.tank ≡ p.tank b.carrier b.stage = same_some (tank_below l path b.carrier b.stage) s.tank _ s.second_tank (chosen.tanks b.carrier b.stage s.second) in
+    let ta : s.tank ≡ p.tank a.carrier a.stage = same_some (tank_below l path a.carrier a.stage) s.tank _ s.first_tank
+    (chosen.tanks a.carrier a.stage s.first) in
+    let tb : s.tank ≡ p.tank b.carrier b.stage = same_some (tank_below l path b.carrier b.stage) s.tank _ s.second_tank
+    (chosen.tanks b.carrier b.stage s.second) in
     let pair : UseOneTank l p a b = record { first = s.first; second = s.second; before = s.before; tank = sym ta ∙ tb } in
     let k = orders_visits l path p t g all a b pair in
     let ea = ap (λ (m : Moment). tick_of l t m) (end_settled l path p a.carrier a.stage s.tank line legal chosen.meets s.first s.first_tank s.first_begin) in
@@ -119,7 +129,8 @@ tank_fails l path p t g a b z line legal chosen all s fails =
     two b b' e e' u f h lt = omega (arith, ints, f, h, lt)
 
 -- no offset that comes neither way
-never_between : (s s' after before q z : ℤ) (n : ℕ) → after ≤ℤ ((s' +ℤ q *ℤ pos n) -ℤ s) → before ≤ℤ neg_ℤ ((s' +ℤ (q -ℤ pos 1) *ℤ pos n) -ℤ s)
+never_between : (s s' after before q z : ℤ) (n : ℕ) → after ≤ℤ ((s' +ℤ q *ℤ pos n) -ℤ s)
+    → before ≤ℤ neg_ℤ ((s' +ℤ (q -ℤ pos 1) *ℤ pos n) -ℤ s)
     → neg_ℤ before <ℤ ((s' +ℤ z *ℤ pos n) -ℤ s) → ((s' +ℤ z *ℤ pos n) -ℤ s) <ℤ after → ⊥
 never_between s s' after before q z n first second one two =
     by_lt_z z q
@@ -134,18 +145,22 @@ never_between s s' after before q z n first second one two =
     late : (s s' w t u : ℤ) → u ≤ℤ t → w ≤ℤ ((s' +ℤ u) -ℤ s) → ((s' +ℤ t) -ℤ s) <ℤ w → ⊥
     late s s' w t u f g h = omega (arith, ints)
 
-hoist_fails : (l : LineData) (path : List Decision) (p : Timetable) (t : ℕ → ℤ) (g : ℕ) (a b : MoveId) (z : ℤ) → IsLegal l p → IsChosen l p path
+hoist_fails : (l : LineData) (path : List Decision) (p : Timetable) (t : ℕ → ℤ) (g : ℕ) (a b : MoveId) (z : ℤ)
+    → IsLegal l p → IsChosen l p path
     → All (Keeps t g) (margin_arcs l p path) → MayClash l path a b → Fails l path t p.period (HoistOrder a b z) → ⊥
 hoist_fails l path p t g a b z legal chosen all s fails =
     let c = some_is (clash_below l path a b) s.clash in
     let own : own_clash l p a b ≡ Some c.0 = sym (clash_chosen l path p a b legal chosen s.first s.second) ∙ c.1 in
     let pair : Collide l p a b c.0 = record { first = s.first; second = s.second; before = s.before; clash = own } in
     let k = orders_moves l path p t g all a b c.0 pair in
-    let P : Option Span → Type 0 = λ o. IsSomeAnd o (λ span. (neg_ℤ span.before <ℤ offset_of l t p.period a b z) × (offset_of l t p.period a b z <ℤ span.after)) in
+    let P : Option Span → Type 0 = λ o. IsSomeAnd o (λ span. (neg_ℤ span.before <ℤ offset_of l t p.period a b z)
+    × (offset_of l t p.period a b z <ℤ span.after)) in
     let f = subst P c.1 fails in
-    never_between (t (move_number l a.carrier a.step)) (t (move_number l b.carrier b.step)) c.0.after c.0.before (move_order l p a b c.0) z p.period k.0 k.1 f.0 f.1
+    never_between (t (move_number l a.carrier a.step)) (t (move_number l b.carrier b.step)) c.0.after c.0.before
+    (move_order l p a b c.0) z p.period k.0 k.1 f.0 f.1
 
-pub none_fails : (l : LineData) (path : List Decision) (p : Timetable) (t : ℕ → ℤ) (g : ℕ) (x : Question) → IsLine l → IsLegal l p → IsChosen l p path
+pub none_fails : (l : LineData) (path : List Decision) (p : Timetable) (t : ℕ → ℤ) (g : ℕ) (x : Question) → IsLine l
+    → IsLegal l p → IsChosen l p path
     → All (Keeps t g) (margin_arcs l p path) → IsOrder x → Stands l path x → Fails l path t p.period x → ⊥
 none_fails l path p t g (Assign m) line legal chosen all order s fails = order
 none_fails l path p t g (TankOrder a b z) line legal chosen all order s fails = tank_fails l path p t g a b z line legal chosen all s fails
@@ -154,7 +169,8 @@ none_fails l path p t g (Choose v) line legal chosen all order s fails = order
 
 -- ---- a timetable that starts its moves by the ticks
 
-start_shift : (l : LineData) (s : Timetable) (t : ℕ → ℤ) (c k : ℕ) → StartsBy l s t → IsMove l c k → ticks_of l s (move_number l c k) ≡ t (move_number l c k) +ℤ pos l.load
+start_shift : (l : LineData) (s : Timetable) (t : ℕ → ℤ) (c k : ℕ) → StartsBy l s t → IsMove l c k
+    → ticks_of l s (move_number l c k) ≡ t (move_number l c k) +ℤ pos l.load
 start_shift l s t c k by move = tick_is l s c k (omega (arith, move.1)) ∙ by c k move
 
 -- the move of a moment
@@ -190,7 +206,8 @@ moment_shift l s t m by move = there (ticks_of l s (node_of l m)) (t (node_of l 
     there a b f n e = omega (arith, ints, e)
 
 -- a hold of a legal timetable is some ticks long
-pub hold_long : (l : LineData) (s : Timetable) (v : VisitId) → IsLine l → IsLegal l s → IsVisit l v.carrier v.stage → begin_tick l s v <ℤ end_tick l s v
+pub hold_long : (l : LineData) (s : Timetable) (v : VisitId) → IsLine l → IsLegal l s → IsVisit l v.carrier v.stage
+    → begin_tick l s v <ℤ end_tick l s v
 hold_long l s v line legal visit =
     let c = v.carrier in
     let k = v.stage in
@@ -209,7 +226,9 @@ hold_long l s v line legal visit =
     let same : t (move_number l c k) ≡ t (move_number l c 0) = ap (λ (j : ℕ). t (move_number l c j)) zero_is in
     let step : IsStep l k = omega (arith, zero_is, two) in
     subst (λ (b : Bool). P b (k == n)) (sym (eq-eqb k 0 zero_is))
-    (subst (λ (e : Bool). P true e) (sym (ne_eqb k n not_last)) (at_load (t (move_number l c 0)) (t (move_number l c k)) l.load (stage l k).lift same (line.times.lift k step).0)))
+    (subst (λ (e : Bool). P true e) (sym (ne_eqb k n not_last))
+    (at_load (t (move_number l c 0)) (t (move_number l c k)) l.load (stage l k).lift same
+    (line.times.lift k step).0)))
     (λ some.
     subst (λ (b : Bool). P b (k == n)) (sym (ne_eqb k 0 some))
     (⊎_elim
@@ -229,7 +248,8 @@ hold_long l s v line legal visit =
     let least = subst Q at (legal.windows.least c (k - 1) here) in
     let step : IsStep l k = omega (arith, visit.1, ne) in
     subst (λ (x : Bool). P false x) (sym (ne_eqb k n ne))
-    (inside (t (move_number l c (k - 1))) (t (move_number l c k)) (s.start c (k - 1)) (s.start c k) (d c (k - 1)) (stage l k).lower (stage l k).lift (stage l k).min
+    (inside (t (move_number l c (k - 1))) (t (move_number l c k)) (s.start c (k - 1)) (s.start c k) (d c (k - 1))
+    (stage l k).lower (stage l k).lift (stage l k).min
     (tick_is l s c (k - 1) (omega (arith, visit.1, some, ne))) (tick_is l s c k (omega (arith, visit.1, ne))) (line.times.lift k step).0 least))
     (cases_eq k n)))
     (cases_eq k 0)
@@ -237,14 +257,17 @@ hold_long l s v line legal visit =
     at_load : (a b : ℤ) (load lift : ℕ) → b ≡ a → 1 ≤ lift → (a +ℤ neg_ℤ (pos load)) <ℤ (b +ℤ pos lift)
     at_load a b load lift e some = omega (arith, ints, e, some)
 
-    at_unload : (a b : ℤ) (d d' lower unload : ℕ) → a ≡ b → d ≡ d' → 1 ≤ lower → (a +ℤ (pos d -ℤ pos lower)) <ℤ (b +ℤ pos (d' + unload))
+    at_unload : (a b : ℤ) (d d' lower unload : ℕ) → a ≡ b → d ≡ d' → 1 ≤ lower
+        → (a +ℤ (pos d -ℤ pos lower)) <ℤ (b +ℤ pos (d' + unload))
     at_unload a b d d' lower unload e f some = omega (arith, ints, e, f, some)
 
-    inside : (a b : ℤ) (x y d lower lift least : ℕ) → a ≡ pos x → b ≡ pos y → 1 ≤ lift → x + d + least ≤ y → (a +ℤ (pos d -ℤ pos lower)) <ℤ (b +ℤ pos lift)
+    inside : (a b : ℤ) (x y d lower lift least : ℕ) → a ≡ pos x → b ≡ pos y → 1 ≤ lift → x + d + least ≤ y
+        → (a +ℤ (pos d -ℤ pos lower)) <ℤ (b +ℤ pos lift)
     inside a b x y d lower lift least e f some le = omega (arith, ints, e, f, some, le)
 
 -- its orders are those of the other
-visits_again : (l : LineData) (p s : Timetable) (t : ℕ → ℤ) (a b : VisitId) (q : ℤ) → IsLine l → IsLegal l s → SameMoves l p s → StartsBy l s t
+visits_again : (l : LineData) (p s : Timetable) (t : ℕ → ℤ) (a b : VisitId) (q : ℤ) → IsLine l → IsLegal l s
+    → SameMoves l p s → StartsBy l s t
     → UseOneTank l p a b → KeepsVisits l p t a b → q ≡ visit_order l p a b → IsVisitOrder l s a b q
 visits_again l p s t a b q line legal same by pair k is =
     let d = durations_of l p in
@@ -275,18 +298,22 @@ visits_again l p s t a b q line legal same by pair k is =
           (λ lt.
           let less : z ≤ℤ (o -ℤ pos 1) = omega (arith, ints, lt, is) in
           absurd
-          (never (end_tick l s a) (begin_tick l s a) (end_tick l s b) (begin_tick l s b) (x b) (y a) (z *ℤ pos s.period) (z *ℤ pos n) ((o -ℤ pos 1) *ℤ pos n) l.load eb ba
+          (never (end_tick l s a) (begin_tick l s a) (end_tick l s b) (begin_tick l s b) (x b) (y a) (z *ℤ pos s.period)
+          (z *ℤ pos n) ((o -ℤ pos 1) *ℤ pos n) l.load eb ba
           (times z) (times_mono z (o -ℤ pos 1) n less) le k.1 long long'))
           (λ ge. ge);
     }
   where
-    first : (e b x y u u' o : ℤ) (w : ℕ) → e ≡ x +ℤ pos w → b ≡ y +ℤ pos w → u ≡ u' → u' ≡ o → x ≤ℤ (y +ℤ o) → e ≤ℤ (b +ℤ u)
+    first : (e b x y u u' o : ℤ) (w : ℕ) → e ≡ x +ℤ pos w → b ≡ y +ℤ pos w → u ≡ u' → u' ≡ o → x ≤ℤ (y +ℤ o)
+        → e ≤ℤ (b +ℤ u)
     first e b x y u u' o w f g h i le = omega (arith, ints, f, g, h, i, le)
 
-    never : (ea ba eb bb x y u u' o : ℤ) (w : ℕ) → eb ≡ x +ℤ pos w → ba ≡ y +ℤ pos w → u ≡ u' → u' ≤ℤ o → ea ≤ℤ (bb +ℤ u) → (x +ℤ o) ≤ℤ y → ba <ℤ ea → bb <ℤ eb → ⊥
+    never : (ea ba eb bb x y u u' o : ℤ) (w : ℕ) → eb ≡ x +ℤ pos w → ba ≡ y +ℤ pos w → u ≡ u' → u' ≤ℤ o
+        → ea ≤ℤ (bb +ℤ u) → (x +ℤ o) ≤ℤ y → ba <ℤ ea → bb <ℤ eb → ⊥
     never ea ba eb bb x y u u' o w f g h i le le' lt lt' = omega (arith, ints, f, g, h, i, le, le', lt, lt')
 
-pub own_tight : (l : LineData) (p : Timetable) (a b : MoveId) (span : Span) → IsLine l → IsLegal l p → Collide l p a b span → IsTight span
+pub own_tight : (l : LineData) (p : Timetable) (a b : MoveId) (span : Span) → IsLine l → IsLegal l p
+    → Collide l p a b span → IsTight span
 own_tight l p a b span line legal pair =
     let P : Option Span → Type 0 = λ o. IfSome o IsTight in
     subst P pair.clash
@@ -294,7 +321,8 @@ own_tight l p a b span line legal pair =
     (is_motion l p a.carrier a.step line legal pair.first) (is_motion l p b.carrier b.step line legal pair.second)
     (legal.carried.hoist a.carrier a.step pair.first) (legal.carried.hoist b.carrier b.step pair.second))
 
-moves_again : (l : LineData) (p s : Timetable) (t : ℕ → ℤ) (a b : MoveId) (span : Span) (q : ℤ) → IsLine l → IsLegal l p → SameMoves l p s → StartsBy l s t
+moves_again : (l : LineData) (p s : Timetable) (t : ℕ → ℤ) (a b : MoveId) (span : Span) (q : ℤ) → IsLine l → IsLegal l p
+    → SameMoves l p s → StartsBy l s t
     → Collide l p a b span → KeepsMoves l p t a b span → q ≡ move_order l p a b span → IsMoveOrder l s a b q
 moves_again l p s t a b span q line legal same by pair k is =
     let n = p.period in
@@ -321,17 +349,21 @@ moves_again l p s t a b span q line legal same by pair k is =
           (λ ge. ge);
     }
   where
-    first : (a b x y w u u' o : ℤ) (n : ℕ) → a ≡ x +ℤ pos n → b ≡ y +ℤ pos n → u ≡ u' → u' ≡ o → w ≤ℤ ((y +ℤ o) -ℤ x) → w ≤ℤ ((b +ℤ u) -ℤ a)
+    first : (a b x y w u u' o : ℤ) (n : ℕ) → a ≡ x +ℤ pos n → b ≡ y +ℤ pos n → u ≡ u' → u' ≡ o → w ≤ℤ ((y +ℤ o) -ℤ x)
+        → w ≤ℤ ((b +ℤ u) -ℤ a)
     first a b x y w u u' o n f g h i le = omega (arith, ints, f, g, h, i, le)
 
-    never : (a b x y w w' u u' o : ℤ) (n : ℕ) → a ≡ x +ℤ pos n → b ≡ y +ℤ pos n → u ≡ u' → u' ≤ℤ o → w ≤ℤ ((b +ℤ u) -ℤ a) → w' ≤ℤ neg_ℤ ((y +ℤ o) -ℤ x)
+    never : (a b x y w w' u u' o : ℤ) (n : ℕ) → a ≡ x +ℤ pos n → b ≡ y +ℤ pos n → u ≡ u' → u' ≤ℤ o
+        → w ≤ℤ ((b +ℤ u) -ℤ a) → w' ≤ℤ neg_ℤ ((y +ℤ o) -ℤ x)
         → pos 2 ≤ℤ (w +ℤ w') → ⊥
     never a b x y w w' u u' o n f g h i le le' tight = omega (arith, ints, f, g, h, i, le, le', tight)
 
 -- ---- its windows
 
-windows_least : (l : LineData) (path : List Decision) (p s : Timetable) (t : ℕ → ℤ) (g c k : ℕ) → IsLine l → IsChosen l p path → SameMoves l p s → StartsBy l s t
-    → All (Keeps t g) (margin_arcs l p path) → IsMove l c (k + 1) → s.start c k + durations_of l s c k + ((stage l (k + 1)).min + g) ≤ s.start c (k + 1)
+windows_least : (l : LineData) (path : List Decision) (p s : Timetable) (t : ℕ → ℤ) (g c k : ℕ) → IsLine l
+    → IsChosen l p path → SameMoves l p s → StartsBy l s t
+    → All (Keeps t g) (margin_arcs l p path) → IsMove l c (k + 1)
+    → s.start c k + durations_of l s c k + ((stage l (k + 1)).min + g) ≤ s.start c (k + 1)
 windows_least l path p s t g c k line chosen same by all move =
     let before : IsMove l c k = (move.0, omega (arith, move.1)) in
     let kept = shared_kept l path p t g (Min c (k + 1)) line chosen all (move.0, omega arith, omega (arith, move.1)) in
@@ -343,7 +375,8 @@ windows_least l path p s t g c k line chosen same by all move =
     (durations_of l s c k) (stage l (k + 1)).min g l.load (pos 0 *ℤ pos p.period) (pos 1 *ℤ pos g) node (by c k before) (by c (k + 1) move) lasts
     (omega (arith, ints)) (omega (arith, ints)) kept
   where
-    there : (t0 t t' : ℤ) (a b d d' m g load : ℕ) (none share : ℤ) → t0 ≡ t → pos a ≡ t +ℤ pos load → pos b ≡ t' +ℤ pos load → d ≡ d' → none ≡ pos 0 → share ≡ pos g
+    there : (t0 t t' : ℤ) (a b d d' m g load : ℕ) (none share : ℤ) → t0 ≡ t → pos a ≡ t +ℤ pos load
+        → pos b ≡ t' +ℤ pos load → d ≡ d' → none ≡ pos 0 → share ≡ pos g
         → (t0 +ℤ ((pos (d + m) +ℤ none) +ℤ share)) ≤ℤ t' → a + d' + (m + g) ≤ b
     there t0 t t' a b d d' m g load none share e0 e f h n s le = omega (arith, ints, e0, e, f, h, n, s, le)
 
@@ -351,7 +384,8 @@ under_max : (o : Option ℕ) (P : ℕ → Type 0) → (IsSome o → P (unwrap_or
 under_max None P h = tt
 under_max (Some m) P h = h refl
 
-windows_greatest : (l : LineData) (path : List Decision) (p s : Timetable) (t : ℕ → ℤ) (g c k : ℕ) → IsLine l → IsChosen l p path → SameMoves l p s → StartsBy l s t
+windows_greatest : (l : LineData) (path : List Decision) (p s : Timetable) (t : ℕ → ℤ) (g c k : ℕ) → IsLine l
+    → IsChosen l p path → SameMoves l p s → StartsBy l s t
     → All (Keeps t g) (margin_arcs l p path) → IsMove l c (k + 1)
     → IfSome (stage l (k + 1)).max (λ m. s.start c (k + 1) + g ≤ s.start c k + durations_of l s c k + m)
 windows_greatest l path p s t g c k line chosen same by all move =
@@ -367,13 +401,15 @@ windows_greatest l path p s t g c k line chosen same by all move =
     (omega (arith, ints)) (omega (arith, ints))
     (shared_kept l path p t g (Max c (k + 1)) line chosen all (move.0, omega arith, omega (arith, move.1), some)))
   where
-    there : (t0 t t' : ℤ) (a b d d' m g load : ℕ) (none share : ℤ) → t0 ≡ t → pos a ≡ t +ℤ pos load → pos b ≡ t' +ℤ pos load → d ≡ d' → none ≡ pos 0 → share ≡ pos g
+    there : (t0 t t' : ℤ) (a b d d' m g load : ℕ) (none share : ℤ) → t0 ≡ t → pos a ≡ t +ℤ pos load
+        → pos b ≡ t' +ℤ pos load → d ≡ d' → none ≡ pos 0 → share ≡ pos g
         → (t' +ℤ ((neg_ℤ (pos (d + m)) +ℤ none) +ℤ share)) ≤ℤ t0 → b + g ≤ a + d' + m
     there t0 t t' a b d d' m g load none share e0 e f h n s le = omega (arith, ints, e0, e, f, h, n, s, le)
 
 -- ---- all
 
-pub is_sibling : (l : LineData) (path : List Decision) (p s : Timetable) (t : ℕ → ℤ) (g : ℕ) → IsLine l → IsLegal l p → IsLegal l s → IsChosen l p path
+pub is_sibling : (l : LineData) (path : List Decision) (p s : Timetable) (t : ℕ → ℤ) (g : ℕ) → IsLine l → IsLegal l p
+    → IsLegal l s → IsChosen l p path
     → SameMoves l p s → StartsBy l s t → All (Keeps t g) (margin_arcs l p path) → IsSibling l p s
 is_sibling l path p s t g line legal legal' chosen same by all = record {
   legal = legal';
@@ -390,7 +426,8 @@ is_sibling l path p s t g line legal legal' chosen same by all = record {
       (one_least (StartsAfter l p a b) q (move_order l p a b c.0) order (move_order_is l p a b c.0 legal.period c.1));
 }
 
-pub has_margin : (l : LineData) (path : List Decision) (p s : Timetable) (t : ℕ → ℤ) (g : ℕ) → IsLine l → IsChosen l p path → SameMoves l p s → StartsBy l s t
+pub has_margin : (l : LineData) (path : List Decision) (p s : Timetable) (t : ℕ → ℤ) (g : ℕ) → IsLine l
+    → IsChosen l p path → SameMoves l p s → StartsBy l s t
     → All (Keeps t g) (margin_arcs l p path) → HasMargin l s g
 has_margin l path p s t g line chosen same by all = record {
   least = λ c k move. windows_least l path p s t g c k line chosen same by all move;

@@ -44,7 +44,8 @@ use Rattle.window_margin.proofs.CountLemmas.{few_arcs}
 
 -- ---- the margins that are allowed
 
-pub are_margin_arcs : (l : LineData) (path : List Decision) (p : Timetable) (arcs : List Arc) → IsLine l → IsLegal l p → IsChosen l p path → p.period ≤ 20000
+pub are_margin_arcs : (l : LineData) (path : List Decision) (p : Timetable) (arcs : List Arc) → IsLine l → IsLegal l p
+    → IsChosen l p path → p.period ≤ 20000
     → arcs ≡ margin_arcs l p path → AreMarginArcs l arcs
 are_margin_arcs l path p arcs line legal chosen few is =
     subst (λ (xs : List Arc). AreMarginArcs l xs) (sym is) (record { few = few_arcs l path p line legal; each = each_fits l path p line legal chosen few })
@@ -71,7 +72,8 @@ visit_inner l path c k other =
     ap (λ (b : Bool). cond b last inner) (ne_eqb k (last_stage l) other)
 
 -- no carrier can rest in a tank for a whole period
-few_ticks : (l : LineData) (path : List Decision) (p : Timetable) (t : ℕ → ℤ) (h : ℕ) → IsLine l → IsChosen l p path → 3 ≤ length l.stages
+few_ticks : (l : LineData) (path : List Decision) (p : Timetable) (t : ℕ → ℤ) (h : ℕ) → IsLine l → IsChosen l p path
+    → 3 ≤ length l.stages
     → All (Keeps t h) (margin_arcs l p path) → h + 3 ≤ p.period
 few_ticks l path p t h line chosen three all =
     let deg = line.limits.degree.0 in
@@ -86,11 +88,14 @@ few_ticks l path p t h line chosen three all =
     (pos 0 *ℤ pos p.period) (pos 1 *ℤ pos h) (negsuc 0 *ℤ pos p.period) lasts (omega (arith, ints)) (omega (arith, ints)) (omega (arith, ints))
     (line.times.least 0 (omega (arith, three))).0 (line.times.lift 1 (omega (arith, three))).0 (line.times.lower 0 (omega (arith, three))).0 rests leaves'
   where
-    there : (a b : ℤ) (d d' m lift lower h n : ℕ) (none share turn : ℤ) → d ≡ d' → none ≡ pos 0 → share ≡ pos h → turn ≡ neg_ℤ (pos n) → 1 ≤ m → 1 ≤ lift → 1 ≤ lower
-        → (a +ℤ ((pos (d + m) +ℤ none) +ℤ share)) ≤ℤ b → (b +ℤ ((pos (lift + lower) -ℤ pos d') +ℤ turn)) ≤ℤ a → h + 3 ≤ n
+    there : (a b : ℤ) (d d' m lift lower h n : ℕ) (none share turn : ℤ) → d ≡ d' → none ≡ pos 0 → share ≡ pos h
+        → turn ≡ neg_ℤ (pos n) → 1 ≤ m → 1 ≤ lift → 1 ≤ lower
+        → (a +ℤ ((pos (d + m) +ℤ none) +ℤ share)) ≤ℤ b → (b +ℤ ((pos (lift + lower) -ℤ pos d') +ℤ turn)) ≤ℤ a
+        → h + 3 ≤ n
     there a b d d' m lift lower h n none share turn e f g i some some' some'' le le' = omega (arith, ints, e, f, g, i, some, some', some'', le, le')
 
-pub are_bounded : (l : LineData) (path : List Decision) (p : Timetable) (arcs : List Arc) → IsLine l → IsLegal l p → IsChosen l p path → 3 ≤ length l.stages
+pub are_bounded : (l : LineData) (path : List Decision) (p : Timetable) (arcs : List Arc) → IsLine l → IsLegal l p
+    → IsChosen l p path → 3 ≤ length l.stages
     → arcs ≡ margin_arcs l p path → AreBounded l p.period arcs
 are_bounded l path p arcs line legal chosen three is =
     subst (λ (xs : List Arc). AreBounded l p.period xs) (sym is) (record {
@@ -101,13 +106,15 @@ are_bounded l path p arcs line legal chosen three is =
 -- ---- node 0 reaches all
 
 leads_on : (s b : SystemData) (i : ℕ) (ks : List ℕ) (j : ℕ)
-    → ((k : ℕ) → k < length s.arcs → (k < length b.arcs) × ((arc b k).from ≡ (arc s k).from) × ((arc b k).to ≡ (arc s k).to)) → Leads s i ks j → Leads b i ks j
+    → ((k : ℕ) → k < length s.arcs → (k < length b.arcs) × ((arc b k).from ≡ (arc s k).from) × ((arc b k).to ≡ (arc s k).to))
+    → Leads s i ks j → Leads b i ks j
 leads_on s b i [] j same h = h
 leads_on s b i (k ∷ ks) j same (lt, to, rest) =
     let e = same k lt in
     (e.0, e.2 ∙ to, subst (λ (n : ℕ). Leads b i ks n) (sym e.1) (leads_on s b i ks (arc s k).from same rest))
 
-pub margins_reached : (l : LineData) (path : List Decision) (p : Timetable) (arcs : List Arc) → IsLine l → IsChosen l p path → arcs ≡ margin_arcs l p path
+pub margins_reached : (l : LineData) (path : List Decision) (p : Timetable) (arcs : List Arc) → IsLine l
+    → IsChosen l p path → arcs ≡ margin_arcs l p path
     → (i : ℕ) → i < move_count l → IsReached (margin_system l arcs) i
 margins_reached l path p arcs line chosen is i lt =
     let r = all_reached l path i line lt in
@@ -139,12 +146,14 @@ margins_reached l path p arcs line chosen is i lt =
 -- ---- the plan of the starts
 
 -- what a timetable of the line has by its lists
-pub tank_is : (l : LineData) (d : TimetableData) (c k : ℕ) → IsLine l → d.steps ≡ last_stage l → (timetable_of d).tank c k ≡ route_tank l d.tank c k
+pub tank_is : (l : LineData) (d : TimetableData) (c k : ℕ) → IsLine l → d.steps ≡ last_stage l
+    → (timetable_of d).tank c k ≡ route_tank l d.tank c k
 tank_is l d c k line steps =
     let e : d.steps + 1 ≡ length l.stages = omega (arith, steps, line.limits.stages.0) in
     ap (λ (n : ℕ). get_or d.tank (c * n + k) 0) e
 
-pub hoist_is : (l : LineData) (d : TimetableData) (c k : ℕ) → d.steps ≡ last_stage l → (timetable_of d).hoist c k ≡ get_or d.hoist (move_number l c k) 0
+pub hoist_is : (l : LineData) (d : TimetableData) (c k : ℕ) → d.steps ≡ last_stage l
+    → (timetable_of d).hoist c k ≡ get_or d.hoist (move_number l c k) 0
 hoist_is l d c k steps = ap (λ (n : ℕ). get_or d.hoist (c * n + k) 0) steps
 
 -- the ticks with the tanks and the hoists of the timetable
@@ -154,7 +163,8 @@ pub record IsSolved (l : LineData) (d : TimetableData) (path : List Decision) (t
   pub hoists : s.hoists ≡ d.hoist
   pub starts : IsLeastSolution (margin_system l (margin_arcs l (timetable_of d) path)) (ticks + 1) s.ticks
 
-pub plannable : (l : LineData) (d : TimetableData) (path : List Decision) (ticks : ℕ) (s : Solved) → IsLine l → FitsLine l d → (1 ≤ d.period) × (d.period ≤ 20000)
+pub plannable : (l : LineData) (d : TimetableData) (path : List Decision) (ticks : ℕ) (s : Solved) → IsLine l
+    → FitsLine l d → (1 ≤ d.period) × (d.period ≤ 20000)
     → IsLegal l (timetable_of d) → IsChosen l (timetable_of d) path → IsSolved l d path ticks s → IsPlannable l s
 plannable l d path ticks s line fits period legal chosen x =
     let p = timetable_of d in
@@ -168,15 +178,19 @@ plannable l d path ticks s line fits period legal chosen x =
       path = path;
       fits = chosen.fits;
       settles = record {
-        tank = λ c k visit. chosen.tanks c k visit ∙ ap (λ (i : ℕ). Some i) (tank_is l d c k line fits.steps ∙ ap (λ (xs : List ℕ). route_tank l xs c k) (sym x.tanks));
-        hoist = λ c k move. chosen.hoists c k move ∙ ap (λ (h : ℕ). Some h) (hoist_is l d c k fits.steps ∙ ap (λ (xs : List ℕ). get_or xs (move_number l c k) 0) (sym x.hoists));
+        tank = λ c k visit. chosen.tanks c k visit ∙ ap (λ (i : ℕ). Some i)
+            (tank_is l d c k line fits.steps ∙ ap (λ (xs : List ℕ). route_tank l xs c k) (sym x.tanks));
+        hoist = λ c k move. chosen.hoists c k move ∙ ap (λ (h : ℕ). Some h)
+            (hoist_is l d c k fits.steps ∙ ap (λ (xs : List ℕ). get_or xs (move_number l c k) 0) (sym x.hoists));
       };
-      constraints = λ t u is. subst (λ (n : ℕ). Keeps (tick_at s.ticks) n (arc_of l path t)) (sym x.period) (undecided_met l path p (tick_at s.ticks) ticks t line chosen all is);
+      constraints = λ t u is. subst (λ (n : ℕ). Keeps (tick_at s.ticks) n (arc_of l path t)) (sym x.period)
+          (undecided_met l path p (tick_at s.ticks) ticks t line chosen all is);
       orders = λ q order stands. subst (λ (n : ℕ). Fails l path (tick_at s.ticks) n q → ⊥) (sym x.period)
           (none_fails l path p (tick_at s.ticks) ticks q line legal chosen all order stands);
     }
 
-plan_same : (l : LineData) (d d' : TimetableData) (s : Solved) → IsLine l → FitsLine l d → FitsLine l d' → s.period ≡ d.period → s.tanks ≡ d.tank → s.hoists ≡ d.hoist
+plan_same : (l : LineData) (d d' : TimetableData) (s : Solved) → IsLine l → FitsLine l d → FitsLine l d'
+    → s.period ≡ d.period → s.tanks ≡ d.tank → s.hoists ≡ d.hoist
     → IsPlan l s d' → SameMoves l (timetable_of d) (timetable_of d')
 plan_same l d d' s line fits fits' period tanks hoists plan = record {
   period = plan.period ∙ period;
@@ -190,20 +204,28 @@ plan_same l d d' s line fits fits' period tanks hoists plan = record {
 abbrev pub HasSibling : LineData → Timetable → ℕ → List ℤ → Type 0
 HasSibling l p ticks starts = (s : Timetable) × IsSibling l p s × HasMargin l s ticks × StartsBy l s (tick_at starts)
 
-pub planned_sibling : (l : LineData) (d d' : TimetableData) (path : List Decision) (ticks : ℕ) (s : Solved) → IsLine l → FitsLine l d → FitsLine l d'
-    → IsLegal l (timetable_of d) → IsLegal l (timetable_of d') → IsChosen l (timetable_of d) path → IsSolved l d path ticks s → IsPlan l s d'
+pub planned_sibling : (l : LineData) (d d' : TimetableData) (path : List Decision) (ticks : ℕ) (s : Solved) → IsLine l
+    → FitsLine l d → FitsLine l d'
+    → IsLegal l (timetable_of d) → IsLegal l (timetable_of d') → IsChosen l (timetable_of d) path
+    → IsSolved l d path ticks s → IsPlan l s d'
     → HasSibling l (timetable_of d) ticks s.ticks
 planned_sibling l d d' path ticks s line fits fits' legal legal' chosen x plan =
     let p = timetable_of d in
     let p' = timetable_of d' in
     let t = tick_at s.ticks in
     let all = kept_allows l (margin_arcs l p path) t ticks x.starts.solves in
-    let same = plan_same l d d' s line fits fits' x.period x.tanks x.hoists plan in
-    (p', is_sibling l path p p' t ticks line legal legal' chosen same plan.start all, has_margin l path p p' t ticks line chosen same plan.start all, plan.start)
+    let same = plan_same l d d' s line fits fits' x.period x.tanks x.hoists plan in (
+      p',
+      is_sibling l path p p' t ticks line legal legal' chosen same plan.start all,
+      has_margin l path p p' t ticks line chosen same plan.start all,
+      plan.start,
+    )
 
 -- no sibling has more
-pub none_has_more : (l : LineData) (path : List Decision) (p : Timetable) (ticks : ℕ) → IsLine l → IsLegal l p → IsChosen l p path
-    → IsGreatest l p.period (margin_arcs l p path) ticks → (s : Timetable) (more : ℕ) → IsSibling l p s → HasMargin l s more → more ≤ ticks
+pub none_has_more : (l : LineData) (path : List Decision) (p : Timetable) (ticks : ℕ) → IsLine l → IsLegal l p
+    → IsChosen l p path
+    → IsGreatest l p.period (margin_arcs l p path) ticks → (s : Timetable) (more : ℕ) → IsSibling l p s
+    → HasMargin l s more → more ≤ ticks
 none_has_more l path p ticks line legal chosen greatest s more sib margin =
     greatest.none_more more
     (ticks_of l s, allows_kept l (margin_arcs l p path) (ticks_of l s) more (sibling_keeps l path p s more line legal.period legal chosen sib margin))
@@ -211,12 +233,14 @@ none_has_more l path p ticks line legal chosen greatest s more sib margin =
 -- ---- the walk
 
 -- the constraints of a walk are there
-pub walk_there : (s : SystemData) (i : ℕ) (ks : List ℕ) (j : ℕ) → Walks s i ks j → (n : ℕ) → n < length ks → get_or ks n 0 < length s.arcs
+pub walk_there : (s : SystemData) (i : ℕ) (ks : List ℕ) (j : ℕ) → Walks s i ks j → (n : ℕ) → n < length ks
+    → get_or ks n 0 < length s.arcs
 walk_there s i [] j h n lt = absurd (omega (arith, lt))
 walk_there s i (k ∷ ks) j h zero lt = h.0
 walk_there s i (k ∷ ks) j h (suc n) lt = walk_there s (arc s k).to ks j h.2 n (omega (arith, lt))
 
-arc_is : (l : LineData) (arcs : List Arc) (k : ℕ) → k < length (map from_one arcs) → arc (margin_system l arcs) k ≡ from_one (arc_at arcs k)
+arc_is : (l : LineData) (arcs : List Arc) (k : ℕ) → k < length (map from_one arcs)
+    → arc (margin_system l arcs) k ≡ from_one (arc_at arcs k)
 arc_is l arcs k lt = get_or-map from_one arcs k no_arc no_arc (omega (arith, lt, length-map arcs from_one))
 
 walk_joined : (l : LineData) (arcs : List Arc) (i : ℕ) (ks : List ℕ) (j : ℕ) → Walks (margin_system l arcs) i ks j
@@ -229,14 +253,16 @@ walk_joined l arcs i (k ∷ ks) j (lt, from, rest) =
           (walk_joined l arcs (arc (margin_system l arcs) k).to ks j rest),
     )
 
-pub walk_closed : (l : LineData) (arcs : List Arc) (w : WalkData) (walk : List MarginArc) → IsClosedWalk (margin_system l arcs) w → walk ≡ named_walk l arcs w.arcs
+pub walk_closed : (l : LineData) (arcs : List Arc) (w : WalkData) (walk : List MarginArc)
+    → IsClosedWalk (margin_system l arcs) w → walk ≡ named_walk l arcs w.arcs
     → IsClosedChain walk
 walk_closed l arcs w walk h is =
     subst (λ (xs : List MarginArc). IsClosedChain xs) (sym is)
     (omega (arith, h.some, length-map w.arcs (λ (k : ℕ). named_arc l (arc_at arcs k))), (move_at l h.node, walk_joined l arcs h.node w.arcs h.node h.leads))
 
 -- what it asks
-walk_sums : (l : LineData) (arcs : List Arc) (h i : ℕ) (ks : List ℕ) (j : ℕ) → AreMarginArcs l arcs → Walks (margin_system l arcs) i ks j
+walk_sums : (l : LineData) (arcs : List Arc) (h i : ℕ) (ks : List ℕ) (j : ℕ) → AreMarginArcs l arcs
+    → Walks (margin_system l arcs) i ks j
     → asked_at h (named_walk l arcs ks) ≡ sum_w (margin_system l arcs) ks +ℤ sum_q (margin_system l arcs) ks *ℤ pos (h + 1)
 walk_sums l arcs h i [] j fits walk = omega (arith, ints)
 walk_sums l arcs h i (k ∷ ks) j fits (lt, from, rest) =
@@ -251,10 +277,12 @@ walk_sums l arcs h i (k ∷ ks) j fits (lt, from, rest) =
     ((sum_q s ks +ℤ (arc s k).q) *ℤ pos (h + 1)) a.w (a.q *ℤ pos h) (pos (unsigned_abs a.q) *ℤ pos h)
     (walk_sums l arcs h (arc s k).to ks j fits rest) (times_add (sum_q s ks) (arc s k).q (h + 1)) w times
   where
-    there : (asked sw sq w q all w' q' q'' : ℤ) → asked ≡ sw +ℤ sq → all ≡ sq +ℤ q → w +ℤ q ≡ w' +ℤ q' → q'' ≡ q' → asked +ℤ (w' +ℤ q'') ≡ (sw +ℤ w) +ℤ all
+    there : (asked sw sq w q all w' q' q'' : ℤ) → asked ≡ sw +ℤ sq → all ≡ sq +ℤ q → w +ℤ q ≡ w' +ℤ q' → q'' ≡ q'
+        → asked +ℤ (w' +ℤ q'') ≡ (sw +ℤ w) +ℤ all
     there asked sw sq w q all w' q' q'' e f g h = omega (arith, ints, e, f, g, h)
 
-pub walk_gains : (l : LineData) (arcs : List Arc) (ticks : ℕ) (w : WalkData) (walk : List MarginArc) → AreMarginArcs l arcs → IsClosedWalk (margin_system l arcs) w
+pub walk_gains : (l : LineData) (arcs : List Arc) (ticks : ℕ) (w : WalkData) (walk : List MarginArc)
+    → AreMarginArcs l arcs → IsClosedWalk (margin_system l arcs) w
     → Refutes w.w w.q (ticks + 1 + 1) → walk ≡ named_walk l arcs w.arcs → pos 0 <ℤ asked_at (ticks + 1) walk
 walk_gains l arcs ticks w walk fits h refutes is =
     let s = margin_system l arcs in
@@ -262,7 +290,8 @@ walk_gains l arcs ticks w walk fits h refutes is =
     let sums = walk_sums l arcs (ticks + 1) h.node w.arcs h.node fits h.leads in
     let asked : asked_at (ticks + 1) walk ≡ asked_at (ticks + 1) (named_walk l arcs w.arcs) = ap (λ (xs : List MarginArc). asked_at (ticks + 1) xs) is in
     let times : w.q *ℤ pos n ≡ sum_q s w.arcs *ℤ pos n = ap (λ (z : ℤ). z *ℤ pos n) h.q in
-    there (asked_at (ticks + 1) walk) (asked_at (ticks + 1) (named_walk l arcs w.arcs)) w.w (sum_w s w.arcs) (w.q *ℤ pos n) (sum_q s w.arcs *ℤ pos n) asked sums h.w times refutes
+    there (asked_at (ticks + 1) walk) (asked_at (ticks + 1) (named_walk l arcs w.arcs)) w.w (sum_w s w.arcs)
+    (w.q *ℤ pos n) (sum_q s w.arcs *ℤ pos n) asked sums h.w times refutes
   where
     there : (x y w w' q q' : ℤ) → x ≡ y → y ≡ w' +ℤ q' → w ≡ w' → q ≡ q' → pos 0 <ℤ (w +ℤ q) → pos 0 <ℤ x
     there x y w w' q q' e f g h gains = omega (arith, ints, e, f, g, h, gains)
@@ -276,13 +305,15 @@ pub record AreParts (l : LineData) (d : TimetableData) (limit : Limit) (s : Solv
   pub hoists : s.hoists ≡ d.hoist
   pub ticks : s.ticks ≡ limit.starts.items
 
-pub limit_on : (l : LineData) (path : List Decision) (p : Timetable) (n : ℕ) (arcs : List Arc) (limit : Limit) → n ≡ p.period → arcs ≡ margin_arcs l p path
+pub limit_on : (l : LineData) (path : List Decision) (p : Timetable) (n : ℕ) (arcs : List Arc) (limit : Limit)
+    → n ≡ p.period → arcs ≡ margin_arcs l p path
     → IsLimit l n arcs limit → IsLimit l p.period (margin_arcs l p path) limit
 limit_on l path p n arcs limit e is h =
     subst (λ (xs : List Arc). IsLimit l p.period xs limit) is (subst (λ (m : ℕ). IsLimit l m arcs limit) e h)
 
 pub solved_by : (l : LineData) (d : TimetableData) (path : List Decision) (limit : Limit) (s : Solved)
-    → IsLimit l d.period (margin_arcs l (timetable_of d) path) limit → AreParts l d limit s → IsSolved l d path limit.ticks s
+    → IsLimit l d.period (margin_arcs l (timetable_of d) path) limit → AreParts l d limit s
+    → IsSolved l d path limit.ticks s
 solved_by l d path limit s h parts = record {
   period = parts.period;
   tanks = parts.tanks;
@@ -290,10 +321,13 @@ solved_by l d path limit s h parts = record {
   starts = subst (λ (xs : List ℤ). IsLeastSolution (margin_system l (margin_arcs l (timetable_of d) path)) (limit.ticks + 1) xs) (sym parts.ticks) h.starts;
 }
 
-pub is_found : (l : LineData) (d d' : TimetableData) (path : List Decision) (limit : Limit) (s : Solved) (walk : List MarginArc) → IsLine l → FitsLine l d
-    → (1 ≤ d.period) × (d.period ≤ 20000) → FitsLine l d' → IsLegal l (timetable_of d) → IsLegal l (timetable_of d') → IsChosen l (timetable_of d) path
+pub is_found : (l : LineData) (d d' : TimetableData) (path : List Decision) (limit : Limit) (s : Solved) (walk : List MarginArc)
+    → IsLine l → FitsLine l d
+    → (1 ≤ d.period) × (d.period ≤ 20000) → FitsLine l d' → IsLegal l (timetable_of d) → IsLegal l (timetable_of d')
+    → IsChosen l (timetable_of d) path
     → IsLimit l d.period (margin_arcs l (timetable_of d) path) limit → AreParts l d limit s → IsPlan l s d'
-    → walk ≡ named_walk l (margin_arcs l (timetable_of d) path) limit.walk.arcs → IsFound l (timetable_of d) limit.ticks s.ticks walk
+    → walk ≡ named_walk l (margin_arcs l (timetable_of d) path) limit.walk.arcs
+    → IsFound l (timetable_of d) limit.ticks s.ticks walk
 is_found l d d' path limit s walk line fits period fits' legal legal' chosen h parts plan names =
     let p = timetable_of d in
     let arcs = margin_arcs l p path in
@@ -320,7 +354,8 @@ is_found l d d' path limit s walk line fits period fits' legal legal' chosen h p
     }
 
 -- the hoists as they are read
-pub hoists_are : (l : LineData) (d : TimetableData) (n : ℕ) (xs ys : List ℕ) → FitsLine l d → n ≡ move_count l → length xs ≡ n
+pub hoists_are : (l : LineData) (d : TimetableData) (n : ℕ) (xs ys : List ℕ) → FitsLine l d → n ≡ move_count l
+    → length xs ≡ n
     → ((j : ℕ) → j < n → get_or xs j 0 ≡ get_or d.hoist j 0) → ys ≡ xs → ys ≡ d.hoist
 hoists_are l d n xs ys fits all count each is =
     is ∙ ext_get_or 0 xs d.hoist (count ∙ all ∙ sym fits.hoist_count) (λ j lt. each j (omega (arith, lt, count)))

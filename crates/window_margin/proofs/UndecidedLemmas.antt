@@ -20,7 +20,8 @@ use Rattle.window_margin.proofs.ChosenLemmas.{none_decided}
 abbrev HasShare : ℤ → Constraint → Type 0
 HasShare share t = share_of t ≡ share
 
-all_rows : (P : Constraint → Type 0) (row : ℕ → List Constraint) (xs : List ℕ) → ((x : ℕ) → All P (row x)) → All P (flat_map row xs)
+all_rows : (P : Constraint → Type 0) (row : ℕ → List Constraint) (xs : List ℕ) → ((x : ℕ) → All P (row x))
+    → All P (flat_map row xs)
 all_rows P row [] h = All-nil P
 all_rows P row (x ∷ xs) h = All-append P (row x) (flat_map row xs) (h x) (all_rows P row xs h)
 
@@ -68,7 +69,8 @@ others_share l =
     (all_rows P (λ c. map (λ k. Visit c k) (later_stages l)) (numbers_from 0 l.degree) (λ c. all_in P (λ k. Visit c k) (later_stages l) (λ k. refl)))
     (all_rows P (λ c. map (λ k. Repeat c k) (steps l)) (numbers_from 0 l.degree) (λ c. all_in P (λ k. Repeat c k) (steps l) (λ k. refl))))
 
-length_rows : (row : ℕ → List Constraint) (width first count : ℕ) → ((c : ℕ) → length (row c) ≡ width) → length (flat_map row (numbers_from first count)) ≡ count * width
+length_rows : (row : ℕ → List Constraint) (width first count : ℕ) → ((c : ℕ) → length (row c) ≡ width)
+    → length (flat_map row (numbers_from first count)) ≡ count * width
 length_rows row width first zero wide = omega arith
 length_rows row width first (suc count) wide =
     omega (arith, length-append (row first) (flat_map row (numbers_from (first + 1) count)), wide first, length_rows row width (first + 1) count wide)
@@ -91,13 +93,15 @@ length_others l =
 pub dwell_count : (l : LineData) (n m : ℕ) → n ≡ length (undecided_list l) → m ≡ l.degree * (2 * last_stage l + 1)
     → (m ≤ n) × (n - m ≡ length (dwells l))
 dwell_count l n m e f =
-    let all : length (undecided_list l) ≡ length (dwells l) + length (others l) = ap (λ (ts : List Constraint). length ts) (in_two l) ∙ length-append (dwells l) (others l) in
+    let all : length (undecided_list l) ≡ length (dwells l) + length (others l) = ap
+    (λ (ts : List Constraint). length ts) (in_two l) ∙ length-append (dwells l) (others l) in
     (omega (arith, all, length_others l, e, f), omega (arith, all, length_others l, e, f))
 
 share_is : (l : LineData) (k : ℕ) → k < length (undecided_list l)
     → share_of (get_or (undecided_list l) k (Entry 0)) ≡ (if nat_lt k (length (dwells l)) then pos 1 else pos 0)
 share_is l k lt =
-    let all : length (undecided_list l) ≡ length (dwells l) + length (others l) = ap (λ (ts : List Constraint). length ts) (in_two l) ∙ length-append (dwells l) (others l) in
+    let all : length (undecided_list l) ≡ length (dwells l) + length (others l) = ap
+    (λ (ts : List Constraint). length ts) (in_two l) ∙ length-append (dwells l) (others l) in
     let split = ap (λ (ts : List Constraint). share_of (get_or ts k (Entry 0))) (in_two l) in
     ⊎_elim
     (λ below.
@@ -111,12 +115,14 @@ share_is l k lt =
     (cases_lt k (length (dwells l)))
 
 -- the names of a path without orders
-pub names_are : (l : LineData) (path : List Decision) → DecidesNoOrder path → arcs_of l path ≡ map (arc_of l path) (undecided_list l)
+pub names_are : (l : LineData) (path : List Decision) → DecidesNoOrder path
+    → arcs_of l path ≡ map (arc_of l path) (undecided_list l)
 names_are l path free =
     ap (λ (ts : List Constraint). map (arc_of l path) (undecided_list l ++ ts)) (none_decided 0 path free)
     ∙ ap (λ (ts : List Constraint). map (arc_of l path) ts) (append-nil (undecided_list l))
 
-pub undecided_are : (l : LineData) (path : List Decision) (n m period : ℕ) (arcs shared : List Arc) → DecidesNoOrder path
+pub undecided_are : (l : LineData) (path : List Decision) (n m period : ℕ) (arcs shared : List Arc)
+    → DecidesNoOrder path
     → arcs ≡ arcs_of l path → n ≡ length arcs → m ≡ l.degree * (2 * last_stage l + 1)
     → AreShared (n - m) period arcs shared → shared ≡ undecided_arcs l path period
 undecided_are l path n m period arcs shared free is count rest (same, each) =
@@ -136,7 +142,8 @@ undecided_are l path n m period arcs shared free is count rest (same, each) =
     each k below ∙ ap (λ (z : ℤ). at_period period z (arc_at arcs k)) share ∙ ap (λ (a : Arc). at_period period (share_of t) a) arc
     ∙ sym (get_or-map f u k (Entry 0) no_arc below'))
 
-pub others_few : (l : LineData) (path : List Decision) (m : ℕ) (arcs : List Arc) → DecidesNoOrder path → arcs ≡ arcs_of l path
+pub others_few : (l : LineData) (path : List Decision) (m : ℕ) (arcs : List Arc) → DecidesNoOrder path
+    → arcs ≡ arcs_of l path
     → m ≡ l.degree * (2 * last_stage l + 1) → m ≤ length arcs
 others_few l path m arcs free is rest =
     let long : length arcs ≡ length (undecided_list l) =
@@ -144,7 +151,8 @@ others_few l path m arcs free is rest =
     (dwell_count l (length arcs) m long rest).0
 
 -- the product as the code reckons it
-pub others_are : (d n : ℕ) (l : LineData) → d ≡ l.degree → n + 2 ≡ length l.stages → d * (2 * n + 3) ≡ l.degree * (2 * last_stage l + 1)
+pub others_are : (d n : ℕ) (l : LineData) → d ≡ l.degree → n + 2 ≡ length l.stages
+    → d * (2 * n + 3) ≡ l.degree * (2 * last_stage l + 1)
 others_are d n l e f =
     let inner : 2 * n + 3 ≡ 2 * last_stage l + 1 = omega (arith, f) in
     ap (λ (x : ℕ). x * (2 * n + 3)) e ∙ ap (λ (x : ℕ). l.degree * x) inner

@@ -1,4 +1,5 @@
--- A path of decisions on tanks and hoists alone, which gives each visit its tank of a timetable and each move its hoist.
+-- A path of decisions on tanks and hoists alone, which gives each visit its tank of a timetable and each move its
+-- hoist.
 use Rattle.std.specs.Prelude.{◌≡◌, ℕ, ◌+◌, ◌<◌, ◌≤◌, List, length, Some, None, All}
 use Rattle.hoist_base.specs.LineData.{LineData, stage, visit_at, move_at, visit_count, IsMove, IsVisit}
 use Rattle.line_model.specs.Timetable.{Timetable, motion}

@@ -23,7 +23,8 @@ module _ {A : Type 0} where
   at_replicate (suc n) zero a b e = same_Some a b e
   at_replicate (suc n) (suc j) a b e = at_replicate n j a b e
 
-  pub sum_moved : (f : A → ℕ) (l : List A) (i : ℕ) (a b : A) → slice_get l i ≡ Some a → sum_by f (set l i b) + f a ≡ sum_by f l + f b
+  pub sum_moved : (f : A → ℕ) (l : List A) (i : ℕ) (a b : A) → slice_get l i ≡ Some a
+      → sum_by f (set l i b) + f a ≡ sum_by f l + f b
   sum_moved f l i a b e =
       ap (λ u. sum_by f (set l i b) + f u) (sym (get_or_from_slice_get l i a a e)) ∙ sum_by-set f l i b a (slice_get_within l i a e)
 
@@ -55,9 +56,11 @@ module _ {A : Type 0} (n : ℕ) (answer : ℕ → A) where
       record { done = g.done; finished = g.finished; claimed = g.claimed; out = λ e. ((g.out e).0, omega (arith, (g.out e).1)) }
 
   -- a claim
-  good_claim : (next : ℕ) (w : Worker A) → IsGood next w → w.current ≡ None → w.is_out ≡ false → IsGood (next + 1) (after_claim n next w)
+  good_claim : (next : ℕ) (w : Worker A) → IsGood next w → w.current ≡ None → w.is_out ≡ false
+      → IsGood (next + 1) (after_claim n next w)
   good_claim next w g idle inside = by_test (nat_lt next n) refl where
-    by_test : (b : Bool) → nat_lt next n ≡ b → IsGood (next + 1) (if b then record w { claimed = w.claimed ++ next ∷ []; current = Some next } else record w { is_out = true })
+    by_test : (b : Bool) → nat_lt next n ≡ b
+        → IsGood (next + 1) (if b then record w { claimed = w.claimed ++ next ∷ []; current = Some next } else record w { is_out = true })
     by_test true e =
         record {
           done = g.done;
@@ -68,9 +71,15 @@ module _ {A : Type 0} (n : ℕ) (answer : ℕ → A) where
     by_test false e =
         record { done = g.done; finished = g.finished; claimed = g.claimed; out = λ f. (idle, grind (arith, e)) }
 
-  times_claim : (x next : ℕ) (w : Worker A) → drawn x (after_claim n next w) + once_below (min next n) x ≡ drawn x w + once_below (min (next + 1) n) x
+  times_claim : (x next : ℕ) (w : Worker A)
+      → drawn x (after_claim n next w) + once_below (min next n) x ≡ drawn x w + once_below (min (next + 1) n) x
   times_claim x next w = by_test (nat_lt next n) refl where
-    by_test : (b : Bool) → nat_lt next n ≡ b → times x (if b then record w { claimed = w.claimed ++ next ∷ []; current = Some next } else record w { is_out = true }).claimed + once_below (min next n) x ≡ times x w.claimed + once_below (min (next + 1) n) x
+    by_test : (b : Bool) → nat_lt next n ≡ b
+        → times x (if b then record w {
+          claimed = w.claimed ++ next ∷ [];
+          current = Some next;
+        } else record w { is_out = true }).claimed + once_below (min next n) x
+        ≡ times x w.claimed + once_below (min (next + 1) n) x
     by_test true e = let below : next < n = grind (arith, e) in omega (arith, times-snoc x next w.claimed, once_below-next x next n below)
     by_test false e = let above : n ≤ next = grind (arith, e) in omega (arith, once_below-full x next n above)
 
@@ -88,13 +97,16 @@ module _ {A : Type 0} (n : ℕ) (answer : ℕ → A) where
   sound_step (claim k) r t s (w, there, idle, inside, after) =
       subst IsSound (sym after) record {
         tidy = λ x. omega (arith, sum_moved (drawn x) r.workers k w (after_claim n r.next w) there, s.tidy x, times_claim x r.next w);
-        each = λ j u e. ⊎_elim (λ same. subst (IsGood (r.next + 1)) same (good_claim r.next w (s.each k w there) idle inside)) (λ old. good_later r.next u (s.each j u old)) (at_set r.workers k j (after_claim n r.next w) u e);
+        each = λ j u e. ⊎_elim (λ same. subst (IsGood (r.next + 1)) same
+            (good_claim r.next w (s.each k w there) idle inside)) (λ old. good_later r.next u (s.each j u old))
+            (at_set r.workers k j (after_claim n r.next w) u e);
         some = omega (arith, length-set r.workers k (after_claim n r.next w), s.some);
       }
   sound_step (finish k) r t s (w, i, there, busy, after) =
       subst IsSound (sym after) record {
         tidy = λ x. omega (arith, sum_moved (drawn x) r.workers k w (after_finish answer i w) there, s.tidy x);
-        each = λ j u e. ⊎_elim (λ same. subst (IsGood r.next) same (good_finish r.next i w (s.each k w there) busy)) (λ old. s.each j u old) (at_set r.workers k j (after_finish answer i w) u e);
+        each = λ j u e. ⊎_elim (λ same. subst (IsGood r.next) same (good_finish r.next i w (s.each k w there) busy))
+            (λ old. s.each j u old) (at_set r.workers k j (after_finish answer i w) u e);
         some = omega (arith, length-set r.workers k (after_finish answer i w), s.some);
       }
 
@@ -106,7 +118,12 @@ module _ {A : Type 0} (n : ℕ) (answer : ℕ → A) where
   sound_begun workers some =
       record {
         tidy = λ x. none x workers ∙ sym (nothing x);
-        each = λ k w e. subst (IsGood 0) (at_replicate workers k new_worker w e) record { done = []; finished = refl; claimed = refl; out = λ f. absurd (true≢false (sym f)) };
+        each = λ k w e. subst (IsGood 0) (at_replicate workers k new_worker w e) record {
+          done = [];
+          finished = refl;
+          claimed = refl;
+          out = λ f. absurd (true≢false (sym f));
+        };
         some = omega (arith, length-replicate workers (new_worker {A = A}), some);
       }
     where
@@ -118,7 +135,8 @@ module _ {A : Type 0} (n : ℕ) (answer : ℕ → A) where
       nothing x = grind arith
 
   -- where all are out, what they finished is what they claimed, with the answers
-  finished_all : (next : ℕ) (ws : List (Worker A)) → ((k : ℕ) (w : Worker A) → slice_get ws k ≡ Some w → IsGood next w) → All (λ (w : Worker A). w.is_out ≡ true) ws
+  finished_all : (next : ℕ) (ws : List (Worker A)) → ((k : ℕ) (w : Worker A) → slice_get ws k ≡ Some w → IsGood next w)
+      → All (λ (w : Worker A). w.is_out ≡ true) ws
       → flat_map (λ (w : Worker A). w.finished) ws ≡ map pair (flat_map (λ (w : Worker A). w.claimed) ws)
   finished_all next [] each over = refl
   finished_all next (w ∷ ws) each over =
@@ -128,20 +146,28 @@ module _ {A : Type 0} (n : ℕ) (answer : ℕ → A) where
       let rest = finished_all next ws (λ k u e. each (suc k) u e) (λ k d h. over (suc k) d (omega (arith, h))) in
       (λ k. now k ++ rest k) ∙ sym (map-append pair w.claimed (flat_map (λ (u : Worker A). u.claimed) ws))
 
-  times-claims : (x : ℕ) (ws : List (Worker A)) → times x (flat_map (λ (w : Worker A). w.claimed) ws) ≡ sum_by (drawn x) ws
+  times-claims : (x : ℕ) (ws : List (Worker A))
+      → times x (flat_map (λ (w : Worker A). w.claimed) ws) ≡ sum_by (drawn x) ws
   times-claims x [] = refl
   times-claims x (w ∷ ws) =
-      times-append x w.claimed (flat_map (λ (u : Worker A). u.claimed) ws) ∙ ap (λ m. times x w.claimed + m) (times-claims x ws) ∙ sym (sum_by-cons (drawn x) w ws)
+      times-append x w.claimed (flat_map (λ (u : Worker A). u.claimed) ws)
+      ∙ ap (λ m. times x w.claimed + m) (times-claims x ws) ∙ sym (sum_by-cons (drawn x) w ws)
 
   -- the first pair under a number that was claimed has its answer
-  found : (i : ℕ) (xs : List ℕ) → 0 < times i xs → option_map (λ (p : ℕ × A). p.1) (find (λ (p : ℕ × A). p.0 == i) (map pair xs)) ≡ Some (answer i)
+  found : (i : ℕ) (xs : List ℕ) → 0 < times i xs
+      → option_map (λ (p : ℕ × A). p.1) (find (λ (p : ℕ × A). p.0 == i) (map pair xs)) ≡ Some (answer i)
   found i [] some = absurd (omega (arith, some))
   found i (x ∷ xs) some = by_test (x == i) refl (found i xs) where
-    by_test : (b : Bool) → (x == i) ≡ b → (0 < times i xs → option_map (λ (p : ℕ × A). p.1) (find (λ (p : ℕ × A). p.0 == i) (map pair xs)) ≡ Some (answer i)) → option_map (λ (p : ℕ × A). p.1) (cond b (Some (pair x)) (find (λ (p : ℕ × A). p.0 == i) (map pair xs))) ≡ Some (answer i)
+    by_test : (b : Bool) → (x == i) ≡ b
+        → (0 < times i xs → option_map (λ (p : ℕ × A). p.1) (find (λ (p : ℕ × A). p.0 == i) (map pair xs)) ≡ Some (answer i))
+        → option_map (λ (p : ℕ × A). p.1) (cond b (Some (pair x)) (find (λ (p : ℕ × A). p.0 == i) (map pair xs))) ≡ Some (answer i)
     by_test true e later = let same : x ≡ i = grind (arith, e) in ap (λ k. Some (answer k)) same
-    by_test false e later = let number : Bool → ℕ = λ b. cond b 1 0 in let no : number (x == i) ≡ number false = ap number e in later (omega (arith, sum_by-cons (λ y. number (y == i)) x xs, no, some))
+    by_test false e later = let number : Bool → ℕ = λ b. cond b 1 0 in let no : number (x == i)
+        ≡ number false = ap number e in later (omega (arith, sum_by-cons (λ y. number (y == i)) x xs, no, some))
 
-  over_past : (next : ℕ) (ws : List (Worker A)) → 0 < length ws → ((k : ℕ) (w : Worker A) → slice_get ws k ≡ Some w → IsGood next w) → All (λ (w : Worker A). w.is_out ≡ true) ws → n ≤ next
+  over_past : (next : ℕ) (ws : List (Worker A)) → 0 < length ws
+      → ((k : ℕ) (w : Worker A) → slice_get ws k ≡ Some w → IsGood next w) → All (λ (w : Worker A). w.is_out ≡ true) ws
+      → n ≤ next
   over_past next [] some each over = absurd (omega (arith, some))
   over_past next (w ∷ ws) some each over = ((each 0 w refl).out (over 0 w (omega arith))).1
 
@@ -153,21 +179,25 @@ module _ {A : Type 0} (n : ℕ) (answer : ℕ → A) where
       same_range (finished_under r) (λ i. Some (answer i)) 0 n
       (λ i low high.
       let past = over_past r.next r.workers s.some s.each over in
-      let one : times i (flat_map (λ (w : Worker A). w.claimed) r.workers) ≡ 1 = times-claims i r.workers ∙ s.tidy i ∙ once_past i r.next past (omega (arith, high)) in
+      let one : times i (flat_map (λ (w : Worker A). w.claimed) r.workers) ≡ 1 = times-claims i r.workers ∙ s.tidy i
+      ∙ once_past i r.next past (omega (arith, high)) in
       ap (λ ps. option_map (λ (p : ℕ × A). p.1) (find (λ (p : ℕ × A). p.0 == i) ps)) (finished_all r.next r.workers s.each over)
       ∙ found i (flat_map (λ (w : Worker A). w.claimed) r.workers) (omega (arith, one)))
     where
-      same_range : (f g : ℕ → Option A) (a m : ℕ) → ((i : ℕ) → a ≤ i → i < a + m → f i ≡ g i) → map f (range_with_len a m) ≡ map g (range_with_len a m)
+      same_range : (f g : ℕ → Option A) (a m : ℕ) → ((i : ℕ) → a ≤ i → i < a + m → f i ≡ g i)
+          → map f (range_with_len a m) ≡ map g (range_with_len a m)
       same_range f g a zero same = refl
       same_range f g a (suc m) same =
           let first = same a (omega arith) (omega arith) in
           let rest = same_range f g (a + 1) m (λ i low high. same i (omega (arith, low)) (omega (arith, high))) in
           λ k. first k ∷ rest k
 
-  sum-claims : (x : ℕ) (ws : List (Worker A)) → sum_by (λ xs. times x xs) (map (λ (w : Worker A). w.claimed) ws) ≡ sum_by (drawn x) ws
+  sum-claims : (x : ℕ) (ws : List (Worker A))
+      → sum_by (λ xs. times x xs) (map (λ (w : Worker A). w.claimed) ws) ≡ sum_by (drawn x) ws
   sum-claims x [] = refl
   sum-claims x (w ∷ ws) =
-      sum_by-cons (λ xs. times x xs) w.claimed (map (λ (u : Worker A). u.claimed) ws) ∙ ap (λ m. times x w.claimed + m) (sum-claims x ws) ∙ sym (sum_by-cons (drawn x) w ws)
+      sum_by-cons (λ xs. times x xs) w.claimed (map (λ (u : Worker A). u.claimed) ws)
+      ∙ ap (λ m. times x w.claimed + m) (sum-claims x ws) ∙ sym (sum_by-cons (drawn x) w ws)
 
 pub any_order : {A : Type 0} → AnyOrder A
 any_order {A} n workers answer events r some lawful =

@@ -17,15 +17,24 @@ share-sum (suc a) b n =
     omega (arith, e, suc-mul (a + b) n, suc-mul a n, share-sum a b n)
 
 -- a list that was cut in two
-pub cut_in_two : {A : Type 0} (n : ℕ) (all first second : List A) → first ≡ take n all → second ≡ drop n all → length first + length second ≡ length all
+pub cut_in_two : {A : Type 0} (n : ℕ) (all first second : List A) → first ≡ take n all → second ≡ drop n all
+    → length first + length second ≡ length all
 cut_in_two n all first second e f =
-    let both : first ++ second ≡ take n all ++ drop n all = λ k. e k ++ f k in sym (length-append first second) ∙ ap length both ∙ ap length (take-append-drop n all)
+    let both : first ++ second ≡ take n all ++ drop n all = λ k. e k ++ f k in sym (length-append first second)
+    ∙ ap length both ∙ ap length (take-append-drop n all)
 
 -- a list of different numbers below n is no longer than n
 count-step : (m : ℕ) (xs : List ℕ) → count_by (λ y. nat_lt y (suc m)) xs ≡ count_by (λ y. nat_lt y m) xs + times m xs
 count-step m [] = refl
 count-step m (x ∷ xs) =
-    omega (arith, sum_by-cons (λ y. cond (nat_lt y (suc m)) 1 0) x xs, sum_by-cons (λ y. cond (nat_lt y m) 1 0) x xs, sum_by-cons (λ y. cond (y == m) 1 0) x xs, one x, count-step m xs)
+    omega (
+      arith,
+      sum_by-cons (λ y. cond (nat_lt y (suc m)) 1 0) x xs,
+      sum_by-cons (λ y. cond (nat_lt y m) 1 0) x xs,
+      sum_by-cons (λ y. cond (y == m) 1 0) x xs,
+      one x,
+      count-step m xs,
+    )
   where
     one : (y : ℕ) → cond (nat_lt y (suc m)) 1 0 ≡ cond (nat_lt y m) 1 0 + cond (y == m) 1 0
     one y = grind arith
@@ -48,7 +57,12 @@ all-below n [] once = refl
 all-below n (y ∷ ys) once =
     let here : 1 ≤ times y (y ∷ ys) = omega (arith, sum_by-cons (λ z. cond (z == y) 1 0) y ys, itself) in
     let below : y < n = inside n y (omega (arith, here, once y)) in
-    omega (arith, sum_by-cons (λ z. cond (nat_lt z n) 1 0) y ys, is_below y below, all-below n ys (λ x. omega (arith, once x, sum_by-cons (λ z. cond (z == x) 1 0) y ys)))
+    omega (
+      arith,
+      sum_by-cons (λ z. cond (nat_lt z n) 1 0) y ys,
+      is_below y below,
+      all-below n ys (λ x. omega (arith, once x, sum_by-cons (λ z. cond (z == x) 1 0) y ys)),
+    )
   where
     itself : number (y == y) ≡ 1
     itself = grind arith
@@ -63,7 +77,8 @@ pub few_below : (n : ℕ) (xs : List ℕ) → ((x : ℕ) → times x xs ≤ once
 few_below n xs once = omega (arith, all-below n xs once, count-few n xs (λ x. omega (arith, once x, once-le n x)))
 
 -- one number more, that is new
-pub once_more : (n i : ℕ) (xs : List ℕ) → i < n → times i xs ≡ 0 → ((x : ℕ) → times x xs ≤ once_below n x) → (x : ℕ) → times x (xs ++ i ∷ []) ≤ once_below n x
+pub once_more : (n i : ℕ) (xs : List ℕ) → i < n → times i xs ≡ 0 → ((x : ℕ) → times x xs ≤ once_below n x) → (x : ℕ)
+    → times x (xs ++ i ∷ []) ≤ once_below n x
 once_more n i xs below new once x = by_test (i == x) refl where
   here : once_below n i ≡ 1
   here = grind (arith, below)
@@ -79,15 +94,18 @@ once_more n i xs below new once x = by_test (i == x) refl where
 module _ {J A : Type 0} (Answers : J → A → Type 0) (jobs : List J) where
   pub keeps_more : (list : List ℕ) (kept : List (ℕ × A)) (i : ℕ) (a : A) → AnswersAt Answers jobs i a
       → Keeps Answers jobs list kept → Keeps Answers jobs (list ++ i ∷ []) (kept ++ (i, a) ∷ [])
-  keeps_more list kept i a here k =
-      (map-append (λ (p : ℕ × A). p.0) kept ((i, a) ∷ []) ∙ ap (λ l. l ++ i ∷ []) k.0, All-push (λ (p : ℕ × A). AnswersAt Answers jobs p.0 p.1) kept (i, a) k.1 here)
+  keeps_more list kept i a here k = (
+    map-append (λ (p : ℕ × A). p.0) kept ((i, a) ∷ []) ∙ ap (λ l. l ++ i ∷ []) k.0,
+    All-push (λ (p : ℕ × A). AnswersAt Answers jobs p.0 p.1) kept (i, a) k.1 here,
+  )
 
   pub keeps_both : (xs ys : List ℕ) (ks ls : List (ℕ × A)) → Keeps Answers jobs xs ks → Keeps Answers jobs ys ls
       → Keeps Answers jobs (xs ++ ys) (ks ++ ls)
   keeps_both xs ys ks ls k l =
       (map-append (λ (p : ℕ × A). p.0) ks ls ∙ (λ i. k.0 i ++ l.0 i), All-append (λ (p : ℕ × A). AnswersAt Answers jobs p.0 p.1) ks ls k.1 l.1)
 
-  pub done_both : (seat other : SeatData) (ks ls : List (ℕ × A)) → Done Answers jobs seat ks → Done Answers jobs other ls
+  pub done_both : (seat other : SeatData) (ks ls : List (ℕ × A)) → Done Answers jobs seat ks
+      → Done Answers jobs other ls
       → Done Answers jobs (joined_seat seat other) (ks ++ ls)
   done_both seat other ks ls k l =
       (ap (λ b. b || other.read_end) k.0, keeps_both seat.list other.list ks ls k.1 l.1)
@@ -110,7 +128,8 @@ module _ {J A : Type 0} (Answers : J → A → Type 0) (jobs : List J) where
   numbers_below list kept k j d h = let (job, read, holds) = k.1 j d h in slice_get_within jobs _ job read
 
 -- the last rooms of a list
-pub tail_serves : {V E R : Type 0} (Serves : R → Type 0) (items : V → List R) (at count : ℕ) (all : List R) (r : Result V E) → at + count ≡ length all → All Serves all
+pub tail_serves : {V E R : Type 0} (Serves : R → Type 0) (items : V → List R) (at count : ℕ) (all : List R) (r : Result V E)
+    → at + count ≡ length all → All Serves all
     → IfOk r (λ v. items v ≡ drop at all) → IfOk r (λ v. Serve Serves count (items v))
 tail_serves Serves items at count all (Ok v) sum serve is =
     subst (Serve Serves count) (sym is) (omega (arith, length-drop at all, sum), All-drop Serves at all serve)
@@ -162,27 +181,32 @@ module _ {A : Type 0} (Holds : ℕ → A → Type 0) where
       let nowhere : Option A = None in length-written (replicate n None) kept ∙ length-replicate n nowhere
 
   -- a place that is right, or whose number was kept, is right in the end
-  written_at : (kept : List (ℕ × A)) (places : List (Option A)) (i : ℕ) → All (λ (p : ℕ × A). Holds p.0 p.1) kept → i < length places
-      → IsRight i (slice_get places i) ⊎ (0 < times i (map (λ (p : ℕ × A). p.0) kept)) → IsRight i (slice_get (fold write places kept) i)
+  written_at : (kept : List (ℕ × A)) (places : List (Option A)) (i : ℕ) → All (λ (p : ℕ × A). Holds p.0 p.1) kept
+      → i < length places
+      → IsRight i (slice_get places i) ⊎ (0 < times i (map (λ (p : ℕ × A). p.0) kept))
+      → IsRight i (slice_get (fold write places kept) i)
   written_at [] places i right inside how = ⊎_elim (λ h. h) (λ h. absurd (omega (arith, h))) how
-  written_at (p ∷ ps) places i right inside how = by_test (p.0 == i) refl (written_at ps (write places p) i (λ k d h. right (suc k) d (omega (arith, h))) (omega (arith, length-set places p.0 (Some p.1), inside))) where
-    this : Holds p.0 p.1
-    this = right 0 p (omega arith)
+  written_at (p ∷ ps) places i right inside how = by_test (p.0 == i) refl (written_at ps (write places p) i
+      (λ k d h. right (suc k) d (omega (arith, h))) (omega (arith, length-set places p.0 (Some p.1), inside))) where
+        this : Holds p.0 p.1
+        this = right 0 p (omega arith)
 
-    by_test : (b : Bool) → (p.0 == i) ≡ b → (IsRight i (slice_get (write places p) i) ⊎ (0 < times i (map (λ (q : ℕ × A). q.0) ps)) → IsRight i (slice_get (fold write (write places p) ps) i))
-        → IsRight i (slice_get (fold write (write places p) ps) i)
-    by_test true e later =
-        let same : p.0 ≡ i = grind (arith, e) in
-        let now : slice_get (write places p) p.0 ≡ Some (Some p.1) = get_set_same places p.0 (Some p.1) (omega (arith, same, inside)) in
-        later (inl (subst (λ k. IsRight k (slice_get (write places p) k)) same (p.1, now, this)))
-    by_test false e later =
-        let other : number (p.0 == i) ≡ 0 = ap number e in
-        let apart : ¬ (i ≡ p.0) = λ same. grind (arith, e, same) in
-        ⊎_elim (λ h. later (inl (h.0, get_set_other places p.0 i (Some p.1) apart ∙ h.1, h.2)))
-        (λ h. later (inr (omega (arith, h, other, sum_by-cons (λ y. cond (y == i) 1 0) p.0 (map (λ (q : ℕ × A). q.0) ps))))) how
+        by_test : (b : Bool) → (p.0 == i) ≡ b
+            → (IsRight i (slice_get (write places p) i) ⊎ (0 < times i (map (λ (q : ℕ × A). q.0) ps)) → IsRight i (slice_get (fold write (write places p) ps) i))
+            → IsRight i (slice_get (fold write (write places p) ps) i)
+        by_test true e later =
+            let same : p.0 ≡ i = grind (arith, e) in
+            let now : slice_get (write places p) p.0 ≡ Some (Some p.1) = get_set_same places p.0 (Some p.1) (omega (arith, same, inside)) in
+            later (inl (subst (λ k. IsRight k (slice_get (write places p) k)) same (p.1, now, this)))
+        by_test false e later =
+            let other : number (p.0 == i) ≡ 0 = ap number e in
+            let apart : ¬ (i ≡ p.0) = λ same. grind (arith, e, same) in
+            ⊎_elim (λ h. later (inl (h.0, get_set_other places p.0 i (Some p.1) apart ∙ h.1, h.2)))
+            (λ h. later (inr (omega (arith, h, other, sum_by-cons (λ y. cond (y == i) 1 0) p.0 (map (λ (q : ℕ × A). q.0) ps))))) how
 
   -- where each number below n was kept once, each place is right
-  pub placed_right : (n : ℕ) (list : List ℕ) (kept : List (ℕ × A)) → EachOnceBelow n list → map (λ (p : ℕ × A). p.0) kept ≡ list
+  pub placed_right : (n : ℕ) (list : List ℕ) (kept : List (ℕ × A)) → EachOnceBelow n list
+      → map (λ (p : ℕ × A). p.0) kept ≡ list
       → All (λ (p : ℕ × A). Holds p.0 p.1) kept → (i : ℕ) → i < n → IsRight i (slice_get (placed n kept) i)
   placed_right n list kept each same right i below =
       let nowhere : Option A = None in
@@ -227,8 +251,10 @@ empty_list [] h = refl
 empty_list (x ∷ xs) h = absurd (omega (arith, h))
 
 -- the seat that had nothing left and took in one with all claims that has read the end
-pub settled : (n : ℕ) (before after whole : SeatData) → after ≡ joined_seat before whole → length before.list ≤ before.used → before.used ≡ 0 → before.left ≡ 0
-    → whole.left + whole.used ≡ all_claims before.board → whole.read_end ≡ true → (after.read_end ≡ true → HasAll after → EachOnceBelow n after.list)
+pub settled : (n : ℕ) (before after whole : SeatData) → after ≡ joined_seat before whole
+    → length before.list ≤ before.used → before.used ≡ 0 → before.left ≡ 0
+    → whole.left + whole.used ≡ all_claims before.board → whole.read_end ≡ true
+    → (after.read_end ≡ true → HasAll after → EachOnceBelow n after.list)
     → EachOnceBelow n whole.list × EachOnceBelow n after.list
 settled n before after whole both few used left all ended each =
     let nothing : before.list ≡ [] = empty_list before.list (omega (arith, few, used)) in
@@ -249,14 +275,19 @@ pub round_done : {J A : Type 0} (Answers : J → A → Type 0) (jobs : List J) (
     (lent before after whole : SeatData) (kept : List (ℕ × A))
     → board.n ≡ length jobs → board.workers ≡ workers → share ≡ workers * (length jobs + 1)
     → lent.board ≡ board → lent.used ≡ 0 → lent.left ≡ workers * (length jobs + 1)
-    → before ≡ record lent { left = lent.left - share } → length before.list ≤ before.used → after ≡ joined_seat before whole
-    → whole.left + whole.used ≡ workers * (length jobs + 1) → (after.read_end ≡ true → HasAll after → EachOnceBelow board.n after.list)
+    → before ≡ record lent { left = lent.left - share } → length before.list ≤ before.used
+    → after ≡ joined_seat before whole
+    → whole.left + whole.used ≡ workers * (length jobs + 1)
+    → (after.read_end ≡ true → HasAll after → EachOnceBelow board.n after.list)
     → Done Answers jobs whole kept
     → ((i : ℕ) → i < length jobs → IsRight (AnswersAt Answers jobs) i (slice_get (placed (length jobs) kept) i))
     × EachOnceBelow (length jobs) after.list
-round_done Answers jobs workers share board lent before after whole kept same_n same_workers shares lent_board lent_used lent_left cut few both counts each done =
+round_done Answers jobs workers share board lent before after whole kept same_n same_workers shares lent_board lent_used
+    lent_left cut few both counts each done =
     let n : ℕ = length jobs in
-    let claims : all_claims before.board ≡ workers * (n + 1) = ap (λ (s : SeatData). all_claims s.board) cut ∙ ap all_claims lent_board ∙ (λ k. same_workers k * (same_n k + 1)) in
+    let claims : all_claims before.board ≡ workers * (n + 1) = ap (λ (s : SeatData). all_claims s.board) cut
+    ∙ ap all_claims lent_board ∙ (λ k. same_workers k * (same_n k + 1)) in
     let left : before.left ≡ 0 = omega (arith, ap (λ (s : SeatData). s.left) cut, lent_left, shares) in
-    let s = settled n before after whole both few (ap (λ (s : SeatData). s.used) cut ∙ lent_used) left (counts ∙ sym claims) done.0 (λ ended all x. each ended all x ∙ ap (λ k. once_below k x) same_n) in
+    let s = settled n before after whole both few (ap (λ (s : SeatData). s.used) cut ∙ lent_used) left
+    (counts ∙ sym claims) done.0 (λ ended all x. each ended all x ∙ ap (λ k. once_below k x) same_n) in
     (placed_right (AnswersAt Answers jobs) n whole.list kept s.0 done.1.0 done.1.1, s.1)

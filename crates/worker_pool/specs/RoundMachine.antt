@@ -1,9 +1,11 @@
--- The round machine: every interleaving of workers that claim the jobs of a round and finish them, as a list of events. Source: this project's own.
+-- The round machine: every interleaving of workers that claim the jobs of a round and finish them, as a list of events.
+-- Source: this project's own.
 use Rattle.std.specs.Prelude.{◌≡◌, ℕ, ◌+◌, ◌<◌, ◌==◌, Bool, true, false, List, [], ◌∷◌, ◌++◌, map, replicate, nat_lt, slice_get, slice_set, if◌then◌else◌, All, Option, Some, None, option_map}
 use Rattle.std.specs.List.{flat_map, find, range_with_len}
 use Rattle.claim_board.specs.Tidy.{Tidy}
 
--- A worker: the jobs that it claimed, the one of them that it works on, whether it is out, and the finished pairs of a job and its answer.
+-- A worker: the jobs that it claimed, the one of them that it works on, whether it is out, and the finished pairs of a
+-- job and its answer.
 pub record Worker (A : Type 0) : Type 0 where
   pub claimed : List ℕ
   pub current : Option ℕ
@@ -37,7 +39,8 @@ module _ {A : Type 0} where
   abbrev pub after_finish : (ℕ → A) → ℕ → Worker A → Worker A
   after_finish answer i w = record w { current = None; finished = w.finished ++ (i, answer i) ∷ [] }
 
-  -- A lawful event and the round after it. Only a worker that has no current job and isn't out claims; only one that has a current job finishes it.
+  -- A lawful event and the round after it. Only a worker that has no current job and isn't out claims; only one that
+  -- has a current job finishes it.
   abbrev pub Happens : ℕ → (ℕ → A) → Event → Round A → Round A → Type 0
   Happens n answer (claim k) before after =
       (w : Worker A) × (slice_get before.workers k ≡ Some w) × (w.current ≡ None) × (w.is_out ≡ false)
@@ -69,7 +72,9 @@ module _ {A : Type 0} where
   abbrev pub gathered : ℕ → Round A → List (Option A)
   gathered n r = map (finished_under r) (range_with_len 0 n)
 
--- Any order: every lawful list of events keeps the claims tidy, and where it ends the round, the gathered answers are those of the jobs 0, 1, .., in that order. So it is for every number of jobs, every number of workers above 0 and every answer of each job.
+-- Any order: every lawful list of events keeps the claims tidy, and where it ends the round, the gathered answers are
+-- those of the jobs 0, 1, .., in that order. So it is for every number of jobs, every number of workers above 0 and
+-- every answer of each job.
 abbrev pub AnyOrder : Type 0 → Type 0
 AnyOrder A =
     (n workers : ℕ) (answer : ℕ → A) (events : List Event) (r : Round A) → 0 < workers → Leads n answer events (begun workers) r

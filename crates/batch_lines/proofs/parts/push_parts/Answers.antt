@@ -10,7 +10,8 @@ loop-i-preserved c =
     elim c.match-whys-i.branch [
       | in-Some+in_ok-push_refusal-in-Some w ↦
           rw (w.text-is, w.rest-is, w.in_ok-push_refusal-in-Some.ensures)
-          (refusal_more c.loop-i.text.items c.loop-i.i c.args.whys.now c.loop-i.rest.now total _ w.in-Some.why c.loop-i-test.true (sym c.index-whys-i.is ∙ w.in-Some.is) c.loop-i.invariant)
+          (refusal_more c.loop-i.text.items c.loop-i.i c.args.whys.now c.loop-i.rest.now total _ w.in-Some.why
+          c.loop-i-test.true (sym c.index-whys-i.is ∙ w.in-Some.is) c.loop-i.invariant)
       | in-None+in-len1-up+in_ok-push_single-in-None w ↦
           rw (w.text-is, w.rest-is, w.in_ok-push_single-in-None.ensures, w.single-item.is)
           (first_more c.loop-i.text.items c.loop-i.i c.args.whys.now c.loop-i.rest.now total _ _ c.loop-i-test.true (sym c.index-whys-i.is ∙ w.in-None.is)

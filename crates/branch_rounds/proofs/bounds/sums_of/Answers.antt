@@ -6,9 +6,11 @@ use Rattle.branch_rounds.proofs.bounds.sums_of.Goals as goal
 pub loop-i-preserved : goal.loop-i-preserved
 loop-i-preserved c = record {
   w =
-      w_more c.args.line.now c.args.path.now c.args.names.now c.loop-i.i _ c.constraint_named-arc.result _ _ _ c.loop-i-test.true c.constraint_named-arc.ensures.value (omega (arith, ints)) c.loop-i.invariant.w;
+      w_more c.args.line.now c.args.path.now c.args.names.now c.loop-i.i _ c.constraint_named-arc.result _ _ _
+      c.loop-i-test.true c.constraint_named-arc.ensures.value (omega (arith, ints)) c.loop-i.invariant.w;
   q =
-      q_more c.args.line.now c.args.path.now c.args.names.now c.loop-i.i _ c.constraint_named-arc.result _ _ _ c.loop-i-test.true c.constraint_named-arc.ensures.value (omega (arith, ints)) c.loop-i.invariant.q;
+      q_more c.args.line.now c.args.path.now c.args.names.now c.loop-i.i _ c.constraint_named-arc.result _ _ _
+      c.loop-i-test.true c.constraint_named-arc.ensures.value (omega (arith, ints)) c.loop-i.invariant.q;
   small_w = omega (arith, ints);
   small_q = omega (arith, ints);
 }

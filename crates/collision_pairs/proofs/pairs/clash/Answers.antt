@@ -29,7 +29,8 @@ pub returns-then-ha-hb-2-clause-tight : goal.returns-then-ha-hb-2-clause-tight
 returns-then-ha-hb-2-clause-tight c =
     let Holds : Option Span → Type 0 = λ x. IfSome x IsTight in
     subst Holds (sym (returns-then-ha-hb-2-clause-value c))
-    (are_tight c.args.line.now c.args.a c.args.ha c.args.b c.args.hb c.gap.ensures.valid c.requires.motions.0 c.requires.motions.1 c.requires.hoists.0 c.requires.hoists.1)
+    (are_tight c.args.line.now c.args.a c.args.ha c.args.b c.args.hb c.gap.ensures.valid c.requires.motions.0
+    c.requires.motions.1 c.requires.hoists.0 c.requires.hoists.1)
 
 pub returns-else-ha-hb-2-clause-value : goal.returns-else-ha-hb-2-clause-value
 returns-else-ha-hb-2-clause-value c =
@@ -47,4 +48,5 @@ pub returns-else-ha-hb-2-clause-tight : goal.returns-else-ha-hb-2-clause-tight
 returns-else-ha-hb-2-clause-tight c =
     let Holds : Option Span → Type 0 = λ x. IfSome x IsTight in
     subst Holds (sym (returns-else-ha-hb-2-clause-value c))
-    (are_tight c.args.line.now c.args.a c.args.ha c.args.b c.args.hb c.gap-else-ha-hb-2.ensures.valid c.requires.motions.0 c.requires.motions.1 c.requires.hoists.0 c.requires.hoists.1)
+    (are_tight c.args.line.now c.args.a c.args.ha c.args.b c.args.hb c.gap-else-ha-hb-2.ensures.valid
+    c.requires.motions.0 c.requires.motions.1 c.requires.hoists.0 c.requires.hoists.1)

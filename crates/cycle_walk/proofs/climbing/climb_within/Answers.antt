@@ -5,7 +5,14 @@ use Rattle.cycle_walk.proofs.ClimbLemmas.{found_none, found_some, climb_floor, c
 use Rattle.cycle_walk.proofs.climbing.climb_within.Goals as goal
 
 pub loop-period-init : goal.loop-period-init
-loop-period-init c = ((c.requires.room, c.requires.links), omega arith, (c.args.cap, omega arith, refl), λ t a b. absurd (omega (arith, a, b)), λ t a b. absurd (omega (arith, a, b)), tt)
+loop-period-init c = (
+  (c.requires.room, c.requires.links),
+  omega arith,
+  (c.args.cap, omega arith, refl),
+  λ t a b. absurd (omega (arith, a, b)),
+  λ t a b. absurd (omega (arith, a, b)),
+  tt,
+)
 
 pub returns-in_default-clause-climb : goal.returns-in_default-clause-climb
 returns-in_default-clause-climb c =
@@ -43,7 +50,8 @@ loop-period-smaller c =
     let down = down_of c.sums-sums.result walk c.sums-sums.ensures (c.if-not-falls.ensures.0 refl) in
     let later = kept_later walk c.loop-period.period refuted.1 down in
     let least = c.least_kept-period.ensures in
-    let kept = raised c.sums-sums.result walk c.loop-period.period c.args.cap c.least_kept-period.result c.sums-sums.ensures refuted.1 down least.most least.below least.kept in
+    let kept = raised c.sums-sums.result walk c.loop-period.period c.args.cap c.least_kept-period.result
+    c.sums-sums.ensures refuted.1 down least.most least.below least.kept in
     omega (arith, kept, later, c.loop-period-test.true)
 
 pub loop-period-preserved : goal.loop-period-preserved
@@ -56,7 +64,8 @@ loop-period-preserved c =
     let down = down_of c.sums-sums.result walk c.sums-sums.ensures (c.if-not-falls.ensures.0 refl) in
     let later = kept_later walk period refuted.1 down in
     let least = c.least_kept-period.ensures in
-    let kept = raised c.sums-sums.result walk period c.args.cap c.least_kept-period.result c.sums-sums.ensures refuted.1 down least.most least.below least.kept in
+    let kept = raised c.sums-sums.result walk period c.args.cap c.least_kept-period.result c.sums-sums.ensures refuted.1
+    down least.most least.below least.kept in
     let (fuel, enough, is) = c.loop-period.invariant.2 in
     let next = climb_raises s c.args.cap fuel period c.loop-period.low walk _ c.loop-period-test.true enough some down later is in
     let now = climb_capped s c.args.cap next.0 (least_kept walk) c.least_kept-period.result (Some walk) _ kept next.1 next.2 in (

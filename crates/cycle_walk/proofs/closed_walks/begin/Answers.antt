@@ -9,4 +9,5 @@ written n i new rest lt within = get_or-take n (new ++ rest) i (pos 0) lt ∙ ge
 
 pub returns-clause-zero : goal.returns-clause-zero
 returns-clause-zero c i lt =
-    written _ i c.clear.new.rows _ (omega (arith, lt, c.requires, c.args.rows.now.ok)) (omega (arith, lt, c.requires, c.clear.ensures.len, c.deref_mut.ensures.len)) ∙ c.clear.ensures.zero i lt
+    written _ i c.clear.new.rows _ (omega (arith, lt, c.requires, c.args.rows.now.ok))
+    (omega (arith, lt, c.requires, c.clear.ensures.len, c.deref_mut.ensures.len)) ∙ c.clear.ensures.zero i lt

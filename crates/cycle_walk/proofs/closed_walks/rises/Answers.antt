@@ -8,12 +8,15 @@ use Rattle.cycle_walk.specs.Values.{zeros, value}
 use Rattle.cycle_walk.proofs.closed_walks.rises.Goals as goal
 
 -- a table with zeros in row 0
-zeros_at : (s : SystemData) (n : ℕ) (rows : List ℤ) → n ≡ s.nodes → ((i : ℕ) → i < n → number rows i ≡ pos 0) → (i : ℕ) → i < s.nodes → cell s.nodes rows 0 i ≡ zeros i
+zeros_at : (s : SystemData) (n : ℕ) (rows : List ℤ) → n ≡ s.nodes → ((i : ℕ) → i < n → number rows i ≡ pos 0) → (i : ℕ)
+    → i < s.nodes → cell s.nodes rows 0 i ≡ zeros i
 zeros_at s n rows e zero i p =
     let place : 0 * s.nodes + i ≡ i = omega arith in
     ap (number rows) place ∙ zero i (omega (arith, p, e))
 
-same_values : (s : SystemData) (period n : ℕ) (rows : List ℤ) → IsSystem s → n ≡ s.nodes → ((i : ℕ) → i < n → number rows i ≡ pos 0) → (m i : ℕ) → i < s.nodes → value_from s (weights_at s period) (cell s.nodes rows 0) m i ≡ value s (weights_at s period) m i
+same_values : (s : SystemData) (period n : ℕ) (rows : List ℤ) → IsSystem s → n ≡ s.nodes
+    → ((i : ℕ) → i < n → number rows i ≡ pos 0) → (m i : ℕ) → i < s.nodes
+    → value_from s (weights_at s period) (cell s.nodes rows 0) m i ≡ value s (weights_at s period) m i
 same_values s period n rows valid e zero m i p =
     from_alike s (weights_at s period) (cell s.nodes rows 0) zeros m i valid (zeros_at s n rows e zero) p
 

@@ -19,26 +19,39 @@ first_grown-start-requires-clause-small c r i le p =
     let valid = c.nodes.ensures.valid in
     let rows = subst (AreValues s c.args.period s.nodes) (sym c.deref.ensures.value) (c.if-not-rises.ensures.rows refl) in
     let n = c.nodes.ensures.value in
-    omega (arith, ints, rows.is r i (omega (arith, le, n)) (omega (arith, p, n)), value_small s c.args.period r i valid c.requires.period (omega (arith, valid.nodes.1, le, n)) (omega (arith, p, n)), ap (λ k. cell k c.deref.result.now r i) n)
+    omega (
+      arith,
+      ints,
+      rows.is r i (omega (arith, le, n)) (omega (arith, p, n)),
+      value_small s c.args.period r i valid c.requires.period (omega (arith, valid.nodes.1, le, n))
+          (omega (arith, p, n)),
+      ap (λ k. cell k c.deref.result.now r i) n,
+    )
 
 pub overflow_cast-start : goal.overflow_cast-start
 overflow_cast-start c =
     let s = c.args.s.now in
-    let is = start_is s c.args.period c.nodes.result c.first_grown-start.result c.deref.result.now (subst (AreValues s c.args.period s.nodes) (sym c.deref.ensures.value) (c.if-not-rises.ensures.rows refl)) c.nodes.ensures.value c.first_grown-start.ensures in
+    let is = start_is s c.args.period c.nodes.result c.first_grown-start.result c.deref.result.now
+    (subst (AreValues s c.args.period s.nodes) (sym c.deref.ensures.value)
+    (c.if-not-rises.ensures.rows refl)) c.nodes.ensures.value c.first_grown-start.ensures in
     let (i, p, rises) = c.if-not-rises.ensures.rises refl in
     omega (arith, (start_rises s c.args.period c.first_grown-start.result i is p rises).0, c.nodes.ensures.valid.nodes.1)
 
 pub go_back-turn-requires-clause-start : goal.go_back-turn-requires-clause-start
 go_back-turn-requires-clause-start c =
     let s = c.args.s.now in
-    let is = start_is s c.args.period c.nodes.result c.first_grown-start.result c.deref.result.now (subst (AreValues s c.args.period s.nodes) (sym c.deref.ensures.value) (c.if-not-rises.ensures.rows refl)) c.nodes.ensures.value c.first_grown-start.ensures in
+    let is = start_is s c.args.period c.nodes.result c.first_grown-start.result c.deref.result.now
+    (subst (AreValues s c.args.period s.nodes) (sym c.deref.ensures.value)
+    (c.if-not-rises.ensures.rows refl)) c.nodes.ensures.value c.first_grown-start.ensures in
     let (i, p, rises) = c.if-not-rises.ensures.rises refl in
     (start_rises s c.args.period c.first_grown-start.result i is p rises).0
 
 pub go_back-turn-requires-clause-rises : goal.go_back-turn-requires-clause-rises
 go_back-turn-requires-clause-rises c =
     let s = c.args.s.now in
-    let is = start_is s c.args.period c.nodes.result c.first_grown-start.result c.deref.result.now (subst (AreValues s c.args.period s.nodes) (sym c.deref.ensures.value) (c.if-not-rises.ensures.rows refl)) c.nodes.ensures.value c.first_grown-start.ensures in
+    let is = start_is s c.args.period c.nodes.result c.first_grown-start.result c.deref.result.now
+    (subst (AreValues s c.args.period s.nodes) (sym c.deref.ensures.value)
+    (c.if-not-rises.ensures.rows refl)) c.nodes.ensures.value c.first_grown-start.ensures in
     let (i, p, rises) = c.if-not-rises.ensures.rises refl in
     (start_rises s c.args.period c.first_grown-start.result i is p rises).1
 
@@ -51,11 +64,19 @@ returns-clause-walk c =
     let s = c.args.s.now in
     let start = c.first_grown-start.result in
     let turn = c.go_back-turn.result in
-    let is = start_is s c.args.period c.nodes.result start c.deref.result.now (subst (AreValues s c.args.period s.nodes) (sym c.deref.ensures.value) (c.if-not-rises.ensures.rows refl)) c.nodes.ensures.value c.first_grown-start.ensures in
+    let is = start_is s c.args.period c.nodes.result start c.deref.result.now
+    (subst (AreValues s c.args.period s.nodes) (sym c.deref.ensures.value)
+    (c.if-not-rises.ensures.rows refl)) c.nodes.ensures.value c.first_grown-start.ensures in
     let (i, p, rises) = c.if-not-rises.ensures.rises refl in
     let start_in = (start_rises s c.args.period start i is p rises).0 in
     let back = c.deref-5.result.now in
-    let same : back ≡ c.go_back-turn.new.back = c.deref-5.ensures.value ∙ written _ c.go_back-turn.new.back _ (omega (arith, c.go_back-turn.ensures.back, c.if-not-rises.ensures.room.back, c.rises.new.room.back.ok)) in
+    let same : back ≡ c.go_back-turn.new.back = c.deref-5.ensures.value
+    ∙ written _ c.go_back-turn.new.back _ (omega (
+      arith,
+      c.go_back-turn.ensures.back,
+      c.if-not-rises.ensures.room.back,
+      c.rises.new.room.back.ok,
+    )) in
     let trail = subst (λ (xs : List ℕ). IsTrail s c.args.period start xs turn.first turn.end) (sym same) c.go_back-turn.ensures.trail in
     ap Some (c.in_ok-walk.ensures.value ∙ ap (walk_of s) (trail_walk s c.args.period start turn.first turn.end back trail))
     ∙ sym (some_where_risen s c.args.period start is start_in)

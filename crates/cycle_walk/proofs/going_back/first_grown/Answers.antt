@@ -11,8 +11,12 @@ returns-then-is_below c =
     let i = c.loop-i.i in
     let old_small = c.requires.small (n - 1) i (omega arith) (omega arith) in
     let new_small = c.requires.small n i (omega arith) (omega arith) in
-    sym (first_is (λ x. int_lt (cell n c.args.rows.now (n - 1) x) (cell n c.args.rows.now n x)) n i
-    (omega arith, true_lt (cell n c.args.rows.now (n - 1) i) (cell n c.args.rows.now n i) (omega (arith, ints, old_small, new_small, c.if-is_below.ensures.0 refl)), c.loop-i.invariant))
+    sym (first_is (λ x. int_lt (cell n c.args.rows.now (n - 1) x) (cell n c.args.rows.now n x)) n i (
+      omega arith,
+      true_lt (cell n c.args.rows.now (n - 1) i) (cell n c.args.rows.now n i)
+          (omega (arith, ints, old_small, new_small, c.if-is_below.ensures.0 refl)),
+      c.loop-i.invariant,
+    ))
 
 pub returns : goal.returns
 returns c = sym (first_none _ c.args.n (λ x lt. c.loop-i.invariant x (omega (arith, lt))))

@@ -25,7 +25,8 @@ loop-t-preserved c =
     let q_split = ap (sum_q s) split in (
       omega (arith, c.loop-t-test.true),
       omega (arith, inv.1),
-      rw c.in_ok-push.ensures.items (append_assoc c.loop-t.arcs.items (k ∷ []) (back_to f first (t - 1 - first)) ∙ ap (λ xs. c.loop-t.arcs.items ++ xs) (sym split) ∙ inv.2),
+      rw c.in_ok-push.ensures.items (append_assoc c.loop-t.arcs.items (k ∷ []) (back_to f first (t - 1 - first))
+          ∙ ap (λ xs. c.loop-t.arcs.items ++ xs) (sym split) ∙ inv.2),
       omega (arith, ints, w_is, sizes.0, w_split, inv.3, inv.5, c.requires.end.1, c.loop-t.w-is),
       omega (arith, ints, q_is, sizes.1, q_split, inv.4, inv.6, c.requires.end.1, c.loop-t.q-is),
       omega (arith, ints, w_is, sizes.0, inv.5, c.requires.end.1, inv.1, c.loop-t-test.true, c.loop-t.w-is),

@@ -15,7 +15,8 @@ loop-h-preserved c =
     c.position-at.ensures.value
     (omega (arith, c.requires.within l.h there, c.position-at.ensures.value, l.invariant.0))
     (c.draw_hoist.ensures
-    ∙ ap (hoist_cell l.h) (ap (λ n. get_or c.args.marks.now (l.h * n + c.args.tick) false) c.period.ensures.value ∙ c.requires.marks.each l.h c.args.tick there c.requires.tick))
+    ∙ ap (hoist_cell l.h) (ap (λ n. get_or c.args.marks.now (l.h * n + c.args.tick) false) c.period.ensures.value
+    ∙ c.requires.marks.each l.h c.args.tick there c.requires.tick))
     refl
 
 pub returns : goal.returns

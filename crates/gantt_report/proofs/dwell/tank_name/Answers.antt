@@ -9,7 +9,8 @@ use Rattle.timetable.specs.TimetableData.{timetable_of}
 use Rattle.gantt_report.proofs.dwell.tank_name.Goals as goal
 
 -- the tank that a carrier uses is one of the line
-there : (l : LineData) (p : Timetable) (c k i : ℕ) → IsLine l → IsRouted l p → IsVisit l c k → i ≡ p.tank c k → i < length l.tanks
+there : (l : LineData) (p : Timetable) (c k i : ℕ) → IsLine l → IsRouted l p → IsVisit l c k → i ≡ p.tank c k
+    → i < length l.tanks
 there l p c k i valid routed visit is = omega (arith, is, valid.stages.there k (p.tank c k) (routed c k visit))
 
 pub bounds-tanks-tank : goal.bounds-tanks-tank

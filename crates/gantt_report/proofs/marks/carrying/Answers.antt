@@ -22,7 +22,12 @@ pub returns : goal.returns
 returns c =
     let l = c.args.line.now in
     let p = timetable_of c.args.t.now in
-    let end : c.loop-number.number ≡ move_count l = omega (arith, c.loop-number-test.false, c.loop-number.auto.number-end, c.move_count-number-end.ensures.value) in
+    let end : c.loop-number.number ≡ move_count l = omega (
+      arith,
+      c.loop-number-test.false,
+      c.loop-number.auto.number-end,
+      c.move_count-number-end.ensures.value,
+    ) in
     are_marks l p c.loop-number.marks.items c.loop-number.invariant.0
     (λ j. c.loop-number.invariant.1 j
     ∙ ap (λ n. list_any (λ i. is_marked_by l p j (move_at l i).carrier (move_at l i).step) (range_with_len 0 n)) end)

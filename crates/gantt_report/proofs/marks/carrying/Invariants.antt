@@ -8,4 +8,5 @@ use Rattle.gantt_report.proofs.marks.carrying.Given as goal
 abbrev pub invariant-loop-number : goal.invariant-loop-number
 invariant-loop-number l =
     (length l.marks.items ≡ l.line.hoists * l.t.period)
-    × ((j : ℕ) → get_or l.marks.items j false ≡ list_any (λ i. is_marked_by l.line (timetable_of l.t) j (move_at l.line i).carrier (move_at l.line i).step) (range_with_len 0 l.number))
+    × ((j : ℕ) → get_or l.marks.items j false ≡ list_any (λ i. is_marked_by l.line (timetable_of l.t) j
+    (move_at l.line i).carrier (move_at l.line i).step) (range_with_len 0 l.number))

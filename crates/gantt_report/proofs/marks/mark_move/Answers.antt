@@ -10,7 +10,9 @@ loop-u-preserved c =
     let m = c.args.m in
     let l = c.loop-u in
     tick_marked c.args.marks.now.items l.marks.items (mark_place p m.carrier m.step) l.u _
-    (place_is p m.carrier m.step l.u c.hoist.result c.period-period.result c.start.result c.hoist.ensures.value c.period-period.ensures.value c.start.ensures.value)
-    (place_within c.hoist.result c.period-period.result (c.start.result + l.u) _ (omega (arith, c.period-period.ensures.valid.period.0, c.period-period.ensures.value))
+    (place_is p m.carrier m.step l.u c.hoist.result c.period-period.result c.start.result c.hoist.ensures.value
+    c.period-period.ensures.value c.start.ensures.value)
+    (place_within c.hoist.result c.period-period.result (c.start.result + l.u) _
+    (omega (arith, c.period-period.ensures.valid.period.0, c.period-period.ensures.value))
     (room_is c.hoist.result c.period-period.result _ _ _ _ c.hoist.ensures.value c.period-period.ensures.value l.invariant.0 c.requires.room))
     l.invariant

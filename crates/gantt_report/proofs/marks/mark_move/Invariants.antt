@@ -7,4 +7,5 @@ use Rattle.gantt_report.proofs.marks.mark_move.Given as goal
 abbrev pub invariant-loop-u : goal.invariant-loop-u
 invariant-loop-u l =
     (length l.marks.items ≡ length l.fn.marks.items)
-    × ((j : ℕ) → get_or l.marks.items j false ≡ (get_or l.fn.marks.items j false || list_any (λ u. mark_place (timetable_of l.t) l.m.carrier l.m.step u == j) (range_with_len 0 l.u)))
+    × ((j : ℕ) → get_or l.marks.items j false ≡ (get_or l.fn.marks.items j false || list_any
+    (λ u. mark_place (timetable_of l.t) l.m.carrier l.m.step u == j) (range_with_len 0 l.u)))

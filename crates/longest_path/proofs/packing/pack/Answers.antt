@@ -27,9 +27,14 @@ loop-k-preserved c =
           (let first : Step = record { from = a.from; to = a.to; weight = told } in
           let second : Step = record { from = a.from; to = a.to; weight = weight a period } in
           let one : first ≡ second = ap (λ (z : ℤ). let made : Step = record { from = a.from; to = a.to; weight = z } in made) weighs in
-          let two : second ≡ step_of s period k = ap (λ (b : Arc). let made : Step = record { from = b.from; to = b.to; weight = weight b period } in made) is in
+          let two : second ≡ step_of s period k = ap (λ (b : Arc). let made : Step = record {
+            from = b.from;
+            to = b.to;
+            weight = weight b period;
+          } in made) is in
           one ∙ two)
           w.if-not-take.ensures)
-      | else-not-take w ↦ rw (w.steps-is, w.count-is) (packed_near s period k c.loop-k.count c.loop-k.near c.take.new.self c.loop-k.steps a.from a.to told c.loop-k.invariant in_list valid from to asks
+      | else-not-take w ↦ rw (w.steps-is, w.count-is) (packed_near s period k c.loop-k.count c.loop-k.near
+          c.take.new.self c.loop-k.steps a.from a.to told c.loop-k.invariant in_list valid from to asks
           w.if-not-take.ensures)
     ]

@@ -10,4 +10,6 @@ returns-clause-row c =
     let near = c.args.near.now in
     let stays = ap (λ (xs : List ℤ). number xs 0) c.as_slice-stay.ensures.value in
     let (small_stay, small_rise, small_fall) = c.requires.near.1 0 in
-    nearest_alone (length old) near (number old) _ c.requires.one (get_or-set_same c.args.new.now 0 _ (pos 0) (omega (arith, c.requires.one, c.requires.new)) ∙ omega (arith, ints, stays, small_stay, c.requires.small 0))
+    nearest_alone (length old) near (number old) _ c.requires.one
+    (get_or-set_same c.args.new.now 0 _ (pos 0) (omega (arith, c.requires.one, c.requires.new))
+    ∙ omega (arith, ints, stays, small_stay, c.requires.small 0))

@@ -22,10 +22,14 @@ returns-clause-first c =
     let told : c.greater.result ≡ int_max (cast (number old 0) +ℤ cast (number c.as_slice-stay.result.now 0)) (cast (number old 1) +ℤ cast (number c.as_slice-fall.result.now 0)) = c.greater.ensures.value in
     let (small_stay, small_rise, small_fall) = c.requires.near.1 0 in
     let is : z ≡ int_max (number old 0 +ℤ number near.stay.items 0) (number old 1 +ℤ number near.fall.items 0) =
-    greater_of c.greater.result (number old 0) (number c.as_slice-stay.result.now 0) (number old 1) (number c.as_slice-fall.result.now 0) (le_trans (c.requires.small 0)) (subst (λ (x : ℤ). unsigned_abs x ≤ 100000000000000000) (sym stays) small_stay) (le_trans (c.requires.small 1)) (subst (λ (x : ℤ). unsigned_abs x ≤ 100000000000000000) (sym falls) small_fall) told
+    greater_of c.greater.result (number old 0) (number c.as_slice-stay.result.now 0) (number old 1)
+    (number c.as_slice-fall.result.now 0) (le_trans (c.requires.small 0))
+    (subst (λ (x : ℤ). unsigned_abs x ≤ 100000000000000000) (sym stays) small_stay) (le_trans (c.requires.small 1))
+    (subst (λ (x : ℤ). unsigned_abs x ≤ 100000000000000000) (sym falls) small_fall) told
     ∙ ap (λ x. int_max (number old 0 +ℤ x) (number old 1 +ℤ number c.as_slice-fall.result.now 0)) stays
     ∙ ap (λ x. int_max (number old 0 +ℤ number near.stay.items 0) (number old 1 +ℤ x)) falls in
-    let here = get_or-set_other (set c.args.new.now 0 z) last 0 y (pos 0) (λ e. omega (arith, e, c.requires.several)) ∙ get_or-set_same c.args.new.now 0 z (pos 0) (omega (arith, c.requires.several, c.requires.new)) in
+    let here = get_or-set_other (set c.args.new.now 0 z) last 0 y (pos 0) (λ e. omega (arith, e, c.requires.several))
+    ∙ get_or-set_same c.args.new.now 0 z (pos 0) (omega (arith, c.requires.several, c.requires.new)) in
     nearest_first (length old) near (number old) (number (set (set c.args.new.now 0 z) last y) 0) c.requires.several (here ∙ is)
 
 pub returns-clause-last : goal.returns-clause-last
@@ -43,4 +47,5 @@ returns-clause-last c i end =
     let at : i ≡ last = omega (arith, end) in
     let here = get_or-set_same (set c.args.new.now 0 z) last y (pos 0) (omega (arith, c.requires.several, c.requires.new, length-set c.args.new.now 0 z)) in
     subst (λ (x : ℕ). IsNearest (length old) near (number old) x (number (set (set c.args.new.now 0 z) last y) x)) (sym at)
-    (nearest_last (length old) near (number old) last (number (set (set c.args.new.now 0 z) last y) last) (omega (arith, c.requires.several)) (omega (arith, c.requires.several)) (here ∙ is))
+    (nearest_last (length old) near (number old) last (number (set (set c.args.new.now 0 z) last y) last)
+    (omega (arith, c.requires.several)) (omega (arith, c.requires.several)) (here ∙ is))

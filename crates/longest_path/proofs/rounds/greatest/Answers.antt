@@ -10,7 +10,8 @@ returns-clause-value c =
     let told : c.greater-most.result ≡ int_max (cast c.args.now +ℤ cast c.args.stay) (cast c.args.before +ℤ cast c.args.rise) = c.greater-most.ensures.value in
     let told_max : c.max.result ≡ int_max (cast c.greater-most.result) (cast (cast c.args.behind +ℤ cast c.args.fall)) = c.max.ensures.value in
     let first : to_z w64 (of_z w64 c.greater-most.result) ≡ int_max (c.args.now +ℤ c.args.stay) (c.args.before +ℤ c.args.rise) = greater_of c.greater-most.result c.args.now c.args.stay c.args.before c.args.rise (omega (arith, c.requires.row.0)) c.requires.weights.0 (omega (arith, c.requires.row.1)) c.requires.weights.1 told in
-    let both = greater_than c.max.result c.greater-most.result c.args.behind c.args.fall c.greater-most.ensures.small (omega (arith, c.requires.row.2)) c.requires.weights.2 told_max in
+    let both = greater_than c.max.result c.greater-most.result c.args.behind c.args.fall c.greater-most.ensures.small
+    (omega (arith, c.requires.row.2)) c.requires.weights.2 told_max in
     both ∙ ap (λ z. int_max z last) first
 
 pub returns-clause-small : goal.returns-clause-small

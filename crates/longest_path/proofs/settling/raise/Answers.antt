@@ -8,7 +8,10 @@ use Rattle.longest_path.proofs.SettleLemmas.{raised_more, raised_none, raised_sm
 use Rattle.longest_path.proofs.settling.raise.Goals as goal
 
 pub loop-k-init : goal.loop-k-init
-loop-k-init c = (raised_none c.args.s.now c.args.period (number c.args.row.now), λ i i_in. omega (arith, c.requires.small i (omega (arith, i_in, c.requires.row))))
+loop-k-init c = (
+  raised_none c.args.s.now c.args.period (number c.args.row.now),
+  λ i i_in. omega (arith, c.requires.small i (omega (arith, i_in, c.requires.row))),
+)
 
 pub loop-k-preserved : goal.loop-k-preserved
 loop-k-preserved c =
@@ -28,7 +31,25 @@ loop-k-preserved c =
     let to : a.to ≡ (arc s k).to = ap (λ (b : Arc). b.to) is in
     let count : length row ≡ s.nodes = omega (arith, c.loop-k.auto.row, c.requires.row) in
     let z = to_z w64 (of_z w64 c.max.result) in
-    let max_is : z ≡ int_max (number row a.to) (number row a.from +ℤ told) = omega (arith, ints, clamps, c.max.ensures.value, c.loop-k.invariant.1 a.to (omega (arith, to, to_in, c.requires.row)), c.loop-k.invariant.1 a.from (omega (arith, from, from_in, c.requires.row)), c.weight.ensures.value, c.weight.ensures.small, valid.count, in_list) in (
+    let max_is : z ≡ int_max (number row a.to) (number row a.from +ℤ told) = omega (
+      arith,
+      ints,
+      clamps,
+      c.max.ensures.value,
+      c.loop-k.invariant.1 a.to (omega (arith, to, to_in, c.requires.row)),
+      c.loop-k.invariant.1 a.from (omega (arith, from, from_in, c.requires.row)),
+      c.weight.ensures.value,
+      c.weight.ensures.small,
+      valid.count,
+      in_list,
+    ) in (
       raised_more s period k (number c.args.row.now) row a.from a.to told z c.loop-k.invariant.0 valid count in_list from to asks max_is,
-      λ i i_in. omega (arith, raised_small row s.nodes a.from a.to (20000000000000000 + k * 30000000000000) 30000000000000 told z (λ j j_in. c.loop-k.invariant.1 j (omega (arith, j_in, c.requires.row))) count (omega (arith, from, from_in)) (omega (arith, to, to_in)) (omega (arith, ints, c.weight.ensures.value, c.weight.ensures.small)) max_is i (omega (arith, i_in, c.requires.row))),
+      λ i i_in. omega (
+        arith,
+        raised_small row s.nodes a.from a.to
+            (20000000000000000 + k * 30000000000000) 30000000000000 told z
+            (λ j j_in. c.loop-k.invariant.1 j (omega (arith, j_in, c.requires.row))) count (omega (arith, from, from_in))
+            (omega (arith, to, to_in)) (omega (arith, ints, c.weight.ensures.value, c.weight.ensures.small)) max_is i
+            (omega (arith, i_in, c.requires.row)),
+      ),
     )

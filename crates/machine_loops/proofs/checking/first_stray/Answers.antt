@@ -6,7 +6,8 @@ use Rattle.machine_loops.proofs.checking.first_stray.Goals as goal
 pub loop-i-preserved : goal.loop-i-preserved
 loop-i-preserved c = (
   c.leads_on.ensures.sized,
-  going_on c.args.line.now (length c.args.frames.now) (scenes c.args.frames.now) (commands c.args.orders.now) c.loop-i.i c.requires.valid (search rules) c.loop-i.invariant.1
+  going_on c.args.line.now (length c.args.frames.now) (scenes c.args.frames.now)
+      (commands c.args.orders.now) c.loop-i.i c.requires.valid (search rules) c.loop-i.invariant.1
       (c.leads_on.ensures.leads.0 (search rules)),
 )
 

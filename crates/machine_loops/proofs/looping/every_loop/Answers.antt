@@ -10,7 +10,14 @@ shown_timetable-requires c =
     let orders = commands c.args.orders.now in
     let count = length c.args.frames.now in
     let loop : IsLoopBy c.args.line.now count frames orders = subst (IsFirstBreak c.args.line.now count frames orders) c.in-None.is c.in_ok-index.ensures in
-    record { closed = record { sized = c.requires.frames; few = c.requires.some.1; known = c.requires.below.next; loop = loop_of c.args.line.now count frames orders loop } }
+    record {
+      closed = record {
+        sized = c.requires.frames;
+        few = c.requires.some.1;
+        known = c.requires.below.next;
+        loop = loop_of c.args.line.now count frames orders loop;
+      };
+    }
 
 pub returns-in_ok-shown_timetable-in-None : goal.returns-in_ok-shown_timetable-in-None
 returns-in_ok-shown_timetable-in-None c =

@@ -19,7 +19,8 @@ returns-clause-blank c =
     let count = c.inner.ensures.count in
     let moves : r * (n + 1) ≡ move_count l = ap (λ (m : ℕ). m * (n + 1)) degree ∙ ap (λ (m : ℕ). l.degree * m) (omega arith) in
     let visits : r * (n + 1 + 1) ≡ visit_count l = ap (λ (m : ℕ). m * (n + 1 + 1)) degree ∙ ap (λ (m : ℕ). l.degree * m) (omega arith) in
-    let places : c.hoists.result * length c.args.frames.now ≡ l.hoists * length c.args.frames.now = ap (λ (m : ℕ). m * length c.args.frames.now) c.hoists.ensures.value in
+    let places : c.hoists.result * length c.args.frames.now ≡ l.hoists * length c.args.frames.now = ap
+    (λ (m : ℕ). m * length c.args.frames.now) c.hoists.ensures.value in
     let offs = c.in_ok-vec-2.ensures.items_if_clones_equal (λ y e. e) in
     nothing_read l c.args.frames.now _ refl
     (zeros_count c.in_ok-vec.field-0.items r l.degree (c.in_ok-vec.ensures.items_if_clones_equal (λ y e. e)) degree)
@@ -28,4 +29,5 @@ returns-clause-blank c =
     (zeros_count c.in_ok-vec-3.field-0.items (r * (n + 1)) (move_count l) (c.in_ok-vec-3.ensures.items_if_clones_equal (λ y e. e)) moves)
     (zeros_count c.in_ok-vec-4.field-0.items (r * (n + 1)) (move_count l) (c.in_ok-vec-4.ensures.items_if_clones_equal (λ y e. e)) moves)
     (zeros_count c.in_ok-vec-6.field-0.items (r * (n + 1 + 1)) (visit_count l) (c.in_ok-vec-6.ensures.items_if_clones_equal (λ y e. e)) visits)
-    (zeros_count c.in_ok-vec-5.field-0.items (c.hoists.result * length c.args.frames.now) (l.hoists * length c.args.frames.now) (c.in_ok-vec-5.ensures.items_if_clones_equal (λ y e. e)) places)
+    (zeros_count c.in_ok-vec-5.field-0.items (c.hoists.result * length c.args.frames.now)
+    (l.hoists * length c.args.frames.now) (c.in_ok-vec-5.ensures.items_if_clones_equal (λ y e. e)) places)

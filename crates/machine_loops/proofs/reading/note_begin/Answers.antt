@@ -7,14 +7,16 @@ use Rattle.machine_loops.proofs.reading.note_begin.Goals as goal
 pub note_move-requires-clause-there : goal.note_move-requires-clause-there
 note_move-requires-clause-there c = (
   c.seen_at-seen.ensures.seen.turn.there,
-  carry_step c.args.line.now c.args.frames.now c.args.t c.args.h c.in-Some.y c.seen_at-seen.ensures.valid c.requires.closed c.requires.there (sym c.carry_at.ensures ∙ c.in-Some.is),
+  carry_step c.args.line.now c.args.frames.now c.args.t c.args.h c.in-Some.y c.seen_at-seen.ensures.valid
+      c.requires.closed c.requires.there (sym c.carry_at.ensures ∙ c.in-Some.is),
 )
 
 pub returns-then-y-eq0 : goal.returns-then-y-eq0
 returns-then-y-eq0 c = record {
   read = noted_begin c.args.line.now c.args.frames.now c.args.t c.args.h c.in-Some.y c.seen_at-seen.result
       c.args.start.now.items c.args.hoist.now.items c.args.tank.now.items c.note_move.new.start.items c.note_move.new.hoist.items c.note_move.new.tank.items
-      c.note_move.ensures.valid c.requires.closed c.requires.there (sym c.carry_at.ensures ∙ c.in-Some.is) c.if-y-eq0.true c.seen_at-seen.ensures.seen c.requires.read
+      c.note_move.ensures.valid c.requires.closed c.requires.there
+      (sym c.carry_at.ensures ∙ c.in-Some.is) c.if-y-eq0.true c.seen_at-seen.ensures.seen c.requires.read
       c.note_move.ensures.start c.note_move.ensures.hoist c.note_move.ensures.tank;
 }
 

@@ -6,4 +6,5 @@ use Rattle.machine_loops.specs.RuleTests.{HoldKeeps}
 use Rattle.machine_loops.proofs.rules.holds_keep.Goals as goal
 
 pub loop-tank-preserved : goal.loop-tank-preserved
-loop-tank-preserved c = up_to_more (HoldKeeps (layout_of c.args.line.now) (scene_of c.args.frame.now)) c.loop-tank.tank c.loop-tank.invariant (c.hold_keeps_at.ensures.0 (search rules))
+loop-tank-preserved c = up_to_more (HoldKeeps (layout_of c.args.line.now)
+    (scene_of c.args.frame.now)) c.loop-tank.tank c.loop-tank.invariant (c.hold_keeps_at.ensures.0 (search rules))

@@ -5,4 +5,5 @@ use Rattle.machine_loops.specs.RuleTests.{RestsOnlyAt}
 use Rattle.machine_loops.proofs.rules.no_other_rests.Goals as goal
 
 pub loop-j-preserved : goal.loop-j-preserved
-loop-j-preserved c = up_to_more (RestsOnlyAt (scene_of c.args.frame.now) c.args.carrier c.args.i) c.loop-j.j c.loop-j.invariant (c.rests_only_at.ensures.0 (search rules))
+loop-j-preserved c = up_to_more (RestsOnlyAt (scene_of c.args.frame.now) c.args.carrier c.args.i) c.loop-j.j
+    c.loop-j.invariant (c.rests_only_at.ensures.0 (search rules))

@@ -6,13 +6,15 @@ use Rattle.machine_loops.proofs.seen.seen_at.Goals as goal
 
 pub turn_of-turn-requires-clause-known : goal.turn_of-turn-requires-clause-known
 turn_of-turn-requires-clause-known c =
-    let known = known_soon c.args.line.now c.args.frames.now c.args.t c.args.carrier c.degree.ensures.valid c.requires.closed c.requires.there c.requires.in_line in
+    let known = known_soon c.args.line.now c.args.frames.now c.args.t c.args.carrier c.degree.ensures.valid
+    c.requires.closed c.requires.there c.requires.in_line in
     omega arith
 
 soon : (c : goal.After-struct_known-1) → c.args.t + c.turn_of-turn.result.periods * length c.args.frames.now < 1480000
 soon c =
     let turn = c.turn_of-turn.result in
-    turn_soon c.args.line.now c.args.frames.now c.args.t c.args.carrier turn.carrier turn.periods c.degree.ensures.valid c.requires.closed c.requires.there c.requires.in_line
+    turn_soon c.args.line.now c.args.frames.now c.args.t c.args.carrier turn.carrier turn.periods c.degree.ensures.valid
+    c.requires.closed c.requires.there c.requires.in_line
     (subst (λ degree. IsTurn degree (scenes c.args.frames.now 0).next c.args.carrier turn.carrier turn.periods) c.degree.ensures.value
     (subst (λ first. IsTurn c.degree.result first c.args.carrier turn.carrier turn.periods) c.next_at.ensures c.turn_of-turn.ensures))
 

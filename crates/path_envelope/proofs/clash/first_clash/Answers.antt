@@ -6,7 +6,8 @@ use Rattle.path_envelope.proofs.clash.first_clash.Goals as goal
 pub returns-in-Some : goal.returns-in-Some
 returns-in-Some c =
     let (g, first, pair) = c.in-Some.ensures in
-    as_first_clash c.args.asked.line.now _ c.in-Some.pair.0 c.in-Some.pair.1 g (first_of_all c.args.asked.line.now _ _ c.loop-h.h g c.loop-h.invariant first) pair
+    as_first_clash c.args.asked.line.now _ c.in-Some.pair.0 c.in-Some.pair.1 g
+    (first_of_all c.args.asked.line.now _ _ c.loop-h.h g c.loop-h.invariant first) pair
 
 pub loop-h-preserved : goal.loop-h-preserved
 loop-h-preserved c = none_of_more_hoists c.args.asked.line.now _ _ c.loop-h.h c.loop-h.invariant c.in_default.ensures

@@ -12,4 +12,11 @@ returns-then-after-period-clause-nearest c =
 pub returns-else-after-period-clause-nearest : goal.returns-else-after-period-clause-nearest
 returns-else-after-period-clause-nearest c =
     nearest_before c.args.period c.unsigned_abs.result c.args.tick c.args.to _ (omega arith) (omega (arith, ints, c.unsigned_abs.ensures.value, c.requires.to))
-    (omega (arith, c.wait-after.ensures.value)) (omega (arith, ints, c.wait-after.ensures.value, c.from.ensures, c.from-else-after-period.ensures, c.requires.to))
+    (omega (arith, c.wait-after.ensures.value)) (omega (
+      arith,
+      ints,
+      c.wait-after.ensures.value,
+      c.from.ensures,
+      c.from-else-after-period.ensures,
+      c.requires.to,
+    ))

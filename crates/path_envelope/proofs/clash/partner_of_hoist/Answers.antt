@@ -7,6 +7,7 @@ returns-in-Some c =
     let (g, first, near) = c.in-Some.ensures in (
       g,
       first_of_hoist c.args.asked.line.now _ _ c.args.h c.loop-number.number g c.loop-number.invariant
-          (own_hoist c.args.asked.line.now c.args.asked.route.now c.args.asked.starts.now c.args.asked.hoists.now c.args.asked.period c.loop-number.number c.args.h g first.number c.if-asked-number.true) first,
+          (own_hoist c.args.asked.line.now c.args.asked.route.now c.args.asked.starts.now c.args.asked.hoists.now
+          c.args.asked.period c.loop-number.number c.args.h g first.number c.if-asked-number.true) first,
       near,
     )

@@ -5,7 +5,13 @@ use Rattle.path_envelope.proofs.RowLemmas.{carried_next}
 use Rattle.path_envelope.proofs.rows.height_round.Goals as goal
 
 pub loop-t-preserved : goal.loop-t-preserved
-loop-t-preserved c = omega (arith, c.loop-t.invariant, c.saturating_sub.ensures, c.max-height.ensures, carried_next (λ i. get_or c.args.row.now i 0) 0 c.loop-t.t)
+loop-t-preserved c = omega (
+  arith,
+  c.loop-t.invariant,
+  c.saturating_sub.ensures,
+  c.max-height.ensures,
+  carried_next (λ i. get_or c.args.row.now i 0) 0 c.loop-t.t,
+)
 
 pub returns : goal.returns
 returns c =

@@ -5,11 +5,13 @@ use Rattle.path_envelope.specs.Rows.{carried}
 use Rattle.path_envelope.proofs.RowLemmas.{carried_next, raised}
 use Rattle.path_envelope.proofs.rows.raise_after.Goals as goal
 
-done_more : (f : ℕ → ℕ) (b i v : ℕ) (row : List ℕ) → ((k : ℕ) → k < i → get_or row k 0 ≡ carried f b (k + 1)) → i < length row → v ≡ carried f b (i + 1) → (k : ℕ) → k < i + 1 → get_or (set row i v) k 0 ≡ carried f b (k + 1)
+done_more : (f : ℕ → ℕ) (b i v : ℕ) (row : List ℕ) → ((k : ℕ) → k < i → get_or row k 0 ≡ carried f b (k + 1))
+    → i < length row → v ≡ carried f b (i + 1) → (k : ℕ) → k < i + 1 → get_or (set row i v) k 0 ≡ carried f b (k + 1)
 done_more f b i v row done lt is k below =
     ⊎_elim
     (λ before. let ne : k ≢ i = omega (arith, before) in get_or-set_other row i k v 0 ne ∙ done k before)
-    (λ past. let e : k ≡ i = omega (arith, below, past) in ap (λ j. get_or (set row i v) j 0) e ∙ (get_or-set_same row i v 0 lt ∙ (is ∙ ap (λ j. carried f b (j + 1)) (sym e))))
+    (λ past. let e : k ≡ i = omega (arith, below, past) in ap (λ j. get_or (set row i v) j 0) e
+    ∙ (get_or-set_same row i v 0 lt ∙ (is ∙ ap (λ j. carried f b (j + 1)) (sym e))))
     (cases_lt k i)
 
 pub loop-t-preserved : goal.loop-t-preserved

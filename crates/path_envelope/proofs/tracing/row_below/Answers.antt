@@ -8,7 +8,8 @@ returns-else-h-eq0 c =
     let k : ℕ = (c.args.h - 1) * c.args.period in
     let e = take_rest c.args.rows.now k in
     let some : 1 ≤ c.args.h = omega (arith, c.if-h-eq0.false) in
-    let all : c.args.h * c.args.period ≡ k + c.args.period = let f : c.args.h * c.args.period ≡ (c.args.h - 1 + 1) * c.args.period = ap (λ n. n * c.args.period) (omega (arith, some)) in omega (arith, f) in
+    let all : c.args.h * c.args.period ≡ k + c.args.period = let f : c.args.h * c.args.period
+    ≡ (c.args.h - 1 + 1) * c.args.period = ap (λ n. n * c.args.period) (omega (arith, some)) in omega (arith, f) in
     record {
       some = some;
       count = omega (arith, ap (λ (xs : List ℕ). length xs) e, length-drop k c.args.rows.now, all, c.requires);

@@ -7,4 +7,5 @@ use Rattle.report_json.specs.Document.{move_value}
 use Rattle.report_json.proofs.plans.moves.Given as goal
 
 abbrev pub invariant-loop-i : goal.invariant-loop-i
-invariant-loop-i l = map view l.values.items ≡ map (λ i. move_value l.line (timetable_of l.t) (move_at l.line i).carrier (move_at l.line i).step) (range_with_len 0 l.i)
+invariant-loop-i l = map view l.values.items ≡ map (λ i. move_value l.line (timetable_of l.t) (move_at l.line i).carrier
+    (move_at l.line i).step) (range_with_len 0 l.i)

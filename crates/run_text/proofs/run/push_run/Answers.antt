@@ -23,7 +23,8 @@ loop-tick-init c =
       tick = c.in_ok-playing.ensures.tick ∙ sym c.first-tick.ensures;
       so_far = (
         [],
-        begun l c.args.t.now c.args.carriers c.drive-runner.result c.in_ok-playing.playing c.first-tick.result c.drive-runner.ensures.runner c.in_ok-playing.ensures.frame c.first-tick.ensures,
+        begun l c.args.t.now c.args.carriers c.drive-runner.result c.in_ok-playing.playing c.first-tick.result
+            c.drive-runner.ensures.runner c.in_ok-playing.ensures.frame c.first-tick.ensures,
         none_yet c.args.text.now.items,
       );
     }
@@ -40,7 +41,8 @@ unreachable-requires c =
     let first : c.first-tick.result ≡ first_tick l p = c.first-tick.ensures ∙ ap runners.first_tick c.drive-runner.ensures.runner in
     let last : c.last-tick-end.result ≡ last_tick l p n = c.last-tick-end.ensures ∙ ap runners.last_tick c.drive-runner.ensures.runner in
     let stop : Stop = record { tick = t; breach = c.in-Some.field-0 } in
-    let step = played c.args.line.now c.args.t.now n c.drive-runner.result m c.advance.new.self t c.in_ok-advance.field-0 c.clear.new.self.items c.advance.new.log.items
+    let step = played c.args.line.now c.args.t.now n c.drive-runner.result m c.advance.new.self t
+    c.in_ok-advance.field-0 c.clear.new.self.items c.advance.new.log.items
     c.drive-runner.ensures.runner c.loop-tick.invariant.line c.loop-tick.invariant.tick c.clear.ensures.items c.in_ok-advance.ensures.step
     ∙ ap (λ (b : Option Breach). reached_or t b (reached c.advance.new.self c.advance.new.log.items)) c.in-Some.is in
     not_done l p n t (reached m so_far.0) stop (omega (arith, first, last, order)) (omega (arith, first, last, order)) c.drive-runner.ensures.run so_far.1
@@ -68,7 +70,8 @@ loop-tick-preserved c =
       tick = c.in_ok-advance.ensures.tick c.in-None.is ∙ ap (λ k. k + 1) c.loop-tick.invariant.tick;
       so_far = (
         so_far.0 ++ more,
-        done_next (layout_of l) (order_into l p n) (first_tick l p) t (start l p) (Ok (reached m so_far.0)) (Ok (reached new (so_far.0 ++ more))) (omega (arith, first, last, order)) so_far.1 on,
+        done_next (layout_of l) (order_into l p n) (first_tick l p) t (start l p) (Ok (reached m so_far.0))
+            (Ok (reached new (so_far.0 ++ more))) (omega (arith, first, last, order)) so_far.1 on,
         lines_more c.args.text.now.items c.loop-tick.text.items c.push_events.new.text.items so_far.0 more so_far.2
             (c.in_ok-push_events-in-None.ensures ∙ ap (λ (es : List Event). c.loop-tick.text.items ++ flat_map event_line es) c.as_slice.ensures.value),
       );
@@ -83,6 +86,14 @@ returns c =
     let order = c.drive-runner.ensures.ready.in_order in
     let first : c.first-tick.result ≡ first_tick l p = c.first-tick.ensures ∙ ap runners.first_tick c.drive-runner.ensures.runner in
     let last : c.last-tick-end.result ≡ last_tick l p n = c.last-tick-end.ensures ∙ ap runners.last_tick c.drive-runner.ensures.runner in
-    let all : c.loop-tick._tick ≡ last_tick l p n + 1 = omega (arith, first, last, order, c.loop-tick-test.false, c.loop-tick.auto._tick, c.loop-tick.auto._tick-end) in
+    let all : c.loop-tick._tick ≡ last_tick l p n + 1 = omega (
+      arith,
+      first,
+      last,
+      order,
+      c.loop-tick-test.false,
+      c.loop-tick.auto._tick,
+      c.loop-tick.auto._tick-end,
+    ) in
     so_far.2 ∙ ap (λ (es : List Event). c.args.text.now.items ++ flat_map event_line es)
     (log_is l p n c.loop-tick._tick (scene_of c.loop-tick.playing.frame) so_far.0 c.drive-runner.ensures.ready.in_order all c.drive-runner.ensures.run so_far.1)

@@ -12,7 +12,9 @@ loop-c-preserved c =
     let degree = c.degree-degree.ensures.value in
     let lt : c.loop-c.c < l.degree = omega (arith, c.loop-c-test.true, c.min-c-end.ensures, degree) in
     let there : c.loop-c.c < n = omega (arith, c.loop-c-test.true, c.min-c-end.ensures) in
-    let so = one_more_soon l (timetable_of d) n c.loop-c.c c.loop-c.last lt there c.requires.carriers c.period-period.ensures.valid.period.1 (c.off.ensures.valid.off_ticks c.loop-c.c) c.loop-c.invariant.0 c.loop-c.invariant.1 in
+    let so = one_more_soon l (timetable_of d) n c.loop-c.c c.loop-c.last lt there c.requires.carriers
+    c.period-period.ensures.valid.period.1 (c.off.ensures.valid.off_ticks c.loop-c.c) c.loop-c.invariant.0
+    c.loop-c.invariant.1 in
     let p = timetable_of d in
     let i = c.loop-c.c in
     let was = c.loop-c.last in

@@ -8,4 +8,10 @@ pub returns-clause-fits : goal.returns-clause-fits
 returns-clause-fits c =
     let l = c.args.line.now in
     let way : (layout_of l).serves c.args.to (c.in-Some.hold.stage + 1) ≡ true = cc in
-    record { from = c.requires.from; to = (layout_is l c.serves.ensures.valid).there c.args.to (c.in-Some.hold.stage + 1) way; step = omega arith; elapsed = omega arith }
+    record {
+      from = c.requires.from;
+      to = (layout_is l c.serves.ensures.valid).there c.args.to
+          (c.in-Some.hold.stage + 1) way;
+      step = omega arith;
+      elapsed = omega arith;
+    }

@@ -22,4 +22,5 @@ pub returns-clause-fits : goal.returns-clause-fits
 returns-clause-fits c =
     let l = layout_of c.args.line.now in
     subst (λ (f : Scene). Fits l 2000 f) (sym (returns-clause-scene c))
-    (tick_fits l (command_of c.args.order.now) (scene_of c.args.old.now) (layout_is c.args.line.now c.move_hoists.ensures.valid) c.requires.fits c.requires.edges)
+    (tick_fits l (command_of c.args.order.now) (scene_of c.args.old.now)
+    (layout_is c.args.line.now c.move_hoists.ensures.valid) c.requires.fits c.requires.edges)

@@ -36,7 +36,8 @@ returns-in-Some-clause-run g c =
     let before : Reached = reached c.loop-tick.playing c.loop-tick.log.items in
     let after : Reached = reached c.advance.new.self c.advance.new.log.items in
     let stop : Stop = record { tick = t; breach = c.in-Some.breach } in
-    let next = step_at c.loop-tick.playing line t command c.in_ok-breach.field-0 before after c.loop-tick.invariant.line c.loop-tick.invariant.tick c.in_ok-breach.ensures.step
+    let next = step_at c.loop-tick.playing line t command c.in_ok-breach.field-0 before after c.loop-tick.invariant.line
+    c.loop-tick.invariant.tick c.in_ok-breach.ensures.step
     ∙ ap (λ (b : Option Breach). reached_or t b after) c.in-Some.is in
     ap (λ (n : ℕ). run l place command n (g.D.Driver.last_tick c.args.driver.now)) (sym c.first-first.ensures)
     ∙ ap (run l place command c.first-first.result) (sym c.last-last.ensures)
@@ -52,7 +53,8 @@ loop-tick-preserved g c =
     let before : Reached = reached c.loop-tick.playing c.loop-tick.log.items in
     let after : Reached = reached c.advance.new.self c.advance.new.log.items in
     let next : next_step l t (command t) (Ok before) ≡ Ok after =
-    step_at c.loop-tick.playing line t command c.in_ok-breach.field-0 before after c.loop-tick.invariant.line c.loop-tick.invariant.tick c.in_ok-breach.ensures.step
+    step_at c.loop-tick.playing line t command c.in_ok-breach.field-0 before after c.loop-tick.invariant.line
+    c.loop-tick.invariant.tick c.in_ok-breach.ensures.step
     ∙ ap (λ (b : Option Breach). reached_or t b after) c.in_default.is in
     record {
       reached = done_next l command c.first-first.result t start (Ok before) (Ok after) (omega arith) c.loop-tick.invariant.reached next;

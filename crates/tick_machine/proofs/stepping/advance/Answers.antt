@@ -7,7 +7,8 @@ use Rattle.tick_machine.specs.Step.{each, first, unless}
 use Rattle.tick_machine.proofs.Passes.{unless_none, unless_some}
 use Rattle.tick_machine.proofs.stepping.advance.Goals as goal
 
-four_pass : (a b d e : Option Breach) (r : Result Scene Breach) → a ≡ None → b ≡ None → d ≡ None → e ≡ None → unless a (unless b (unless d (unless e r))) ≡ r
+four_pass : (a b d e : Option Breach) (r : Result Scene Breach) → a ≡ None → b ≡ None → d ≡ None → e ≡ None
+    → unless a (unless b (unless d (unless e r))) ≡ r
 four_pass a b d e r p q s t = unless_none a _ p ∙ unless_none b _ q ∙ unless_none d _ s ∙ unless_none e r t
 
 pub returns-in-Err-lower_in_all-clause-step : goal.returns-in-Err-lower_in_all-clause-step

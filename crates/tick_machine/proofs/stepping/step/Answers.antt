@@ -11,9 +11,12 @@ returns-in-Ok-clause-frame c =
     let l = c.args.line.now in
     record {
       sized = c.in-Ok.ensures.sized;
-      rules = step_keeps (layout_of l) (command_of c.args.order.now) (scene_of c.args.old.now) (scene_of c.advance.new.new) (layout_is l c.in-Ok.ensures.valid) c.requires.old.rules (sym c.in-Ok.ensures.step);
+      rules = step_keeps (layout_of l) (command_of c.args.order.now) (scene_of c.args.old.now)
+          (scene_of c.advance.new.new) (layout_is l c.in-Ok.ensures.valid) c.requires.old.rules
+          (sym c.in-Ok.ensures.step);
     }
 
 pub returns-in-Ok-clause-grows : goal.returns-in-Ok-clause-grows
 returns-in-Ok-clause-grows c = λ n below.
-    step_below (layout_of c.args.line.now) (command_of c.args.order.now) n (scene_of c.args.old.now) (scene_of c.advance.new.new) below (sym c.in-Ok.ensures.step)
+    step_below (layout_of c.args.line.now) (command_of c.args.order.now) n (scene_of c.args.old.now)
+    (scene_of c.advance.new.new) below (sym c.in-Ok.ensures.step)

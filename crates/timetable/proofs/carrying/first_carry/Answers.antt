@@ -33,4 +33,5 @@ returns c =
     let p = timetable_of c.args.t.now in
     let le = rw c.move_count-number-end.ensures.value at c.loop-number-test.false in
     carry_none l p (last_stage l) refl
-    (none_under_less (last_stage l) c.loop-number.number (move_count l) (λ x k. (x' : ℕ) × (k' : ℕ) × (s : ℤ) × CarriesTwo l p x k x' k' s) c.loop-number.invariant le)
+    (none_under_less (last_stage l) c.loop-number.number (move_count l)
+    (λ x k. (x' : ℕ) × (k' : ℕ) × (s : ℤ) × CarriesTwo l p x k x' k' s) c.loop-number.invariant le)

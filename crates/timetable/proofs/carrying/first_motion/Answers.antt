@@ -14,7 +14,8 @@ returns-in-Some c =
     let least = rw e at c.in-Some.ensures in
     let want = rw (c.motion.ensures.value, e) at c.place-want.ensures.value in
     let seen = rw (c.hoist.ensures.value, c.start.ensures.value, e) at c.position-seen.ensures.value in
-    rw e (motion_first l p (last_stage l) c.loop-number.number c.in-Some.u c.place-want.result c.position-seen.result refl c.loop-number.invariant least want seen)
+    rw e (motion_first l p (last_stage l) c.loop-number.number c.in-Some.u c.place-want.result c.position-seen.result
+    refl c.loop-number.invariant least want seen)
 
 pub loop-number-preserved : goal.loop-number-preserved
 loop-number-preserved c =

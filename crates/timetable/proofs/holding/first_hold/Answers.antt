@@ -33,4 +33,5 @@ returns c =
     let p = timetable_of c.args.t.now in
     let le = rw c.visit_count-number-end.ensures.value at c.loop-number-test.false in
     hold_none l p (length l.stages) refl
-    (none_under_less (length l.stages) c.loop-number.number (visit_count l) (λ x k. (x' : ℕ) × (k' : ℕ) × (s : ℤ) × HoldTwo l p x k x' k' s) c.loop-number.invariant le)
+    (none_under_less (length l.stages) c.loop-number.number (visit_count l)
+    (λ x k. (x' : ℕ) × (k' : ℕ) × (s : ℤ) × HoldTwo l p x k x' k' s) c.loop-number.invariant le)

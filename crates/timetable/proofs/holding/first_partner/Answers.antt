@@ -15,7 +15,8 @@ loop-number-init c =
     let a = c.args.a in
     let P : ℕ → ℕ → ℤ → Type 0 = HoldTwo l (timetable_of c.args.t.now) a.carrier a.stage in
     rw c.visit_number-number.ensures.value
-    (partner_start (length l.stages) a.carrier a.stage (visit_number l a.carrier a.stage) P (omega (arith, c.requires.there.1)) (λ x k s two. two.0.0) (omega arith))
+    (partner_start (length l.stages) a.carrier a.stage (visit_number l a.carrier a.stage) P
+    (omega (arith, c.requires.there.1)) (λ x k s two. two.0.0) (omega arith))
 
 pub returns-in-Some-clause-first : goal.returns-in-Some-clause-first
 returns-in-Some-clause-first c =

@@ -17,5 +17,17 @@ returns-else-eq c =
     let a = c.args.a in
     let b = c.args.b in
     let differ = not_both_equal a.carrier b.carrier a.stage b.stage c.eq.result c.eq.ensures c.if-eq.false in
-    let least = rw (c.hold_of-hold.ensures.begin, c.hold_of-hold.ensures.end, c.hold_of.ensures.begin, c.hold_of.ensures.end, c.period-else-eq.ensures.value) at c.first_meeting.ensures in
-    holds_other c.args.line.now (timetable_of c.args.t.now) a.carrier a.stage b.carrier b.stage c.first_meeting.result c.requires.first c.requires.second (omega (arith, c.tank.ensures.value, c.tank-2.ensures.value, c.if-tank.false)) c.requires.order differ least
+    let least = rw (
+      c.hold_of-hold.ensures.begin,
+      c.hold_of-hold.ensures.end,
+      c.hold_of.ensures.begin,
+      c.hold_of.ensures.end,
+      c.period-else-eq.ensures.value,
+    ) at c.first_meeting.ensures in
+    holds_other c.args.line.now (timetable_of c.args.t.now) a.carrier a.stage b.carrier b.stage c.first_meeting.result
+    c.requires.first c.requires.second (omega (
+      arith,
+      c.tank.ensures.value,
+      c.tank-2.ensures.value,
+      c.if-tank.false,
+    )) c.requires.order differ least

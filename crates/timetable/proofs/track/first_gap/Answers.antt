@@ -22,7 +22,11 @@ returns-then-high-low c =
     let low = rw e at c.position-low.ensures.value in
     let high = rw e at c.position-high.ensures.value in
     let row : i / p.period < l.hoists - 1 = row_below p.period i (l.hoists - 1) lt in
-    let near : AreNear l p (i / p.period) (i % p.period) = (omega (arith, row), mod_below i p.period c.period-period.ensures.valid.period.0, omega (arith, low, high, c.if-high-low.true, c.gap.ensures.value)) in
+    let near : AreNear l p (i / p.period) (i % p.period) = (
+      omega (arith, row),
+      mod_below i p.period c.period-period.ensures.valid.period.0,
+      omega (arith, low, high, c.if-high-low.true, c.gap.ensures.value),
+    ) in
     rw e (gap_first l p i c.position-low.result c.position-high.result c.loop-number.invariant near low high)
 
 pub loop-number-preserved : goal.loop-number-preserved

@@ -15,7 +15,11 @@ returns-then-abs_diff-gt1 c =
     let lt = rw (c.hoists.ensures.value, e) at c.loop-number-test.true in
     let old = rw e at c.position-old.ensures.value in
     let new = rw e at c.position-new.ensures.value in
-    let fast : IsFast l p (i / p.period) (i % p.period) = (row_below p.period i l.hoists lt, mod_below i p.period c.period-period.ensures.valid.period.0, omega (arith, old, new, c.if-abs_diff-gt1.true, c.abs_diff.ensures)) in
+    let fast : IsFast l p (i / p.period) (i % p.period) = (
+      row_below p.period i l.hoists lt,
+      mod_below i p.period c.period-period.ensures.valid.period.0,
+      omega (arith, old, new, c.if-abs_diff-gt1.true, c.abs_diff.ensures),
+    ) in
     rw e (speed_first l p i c.position-old.result c.position-new.result c.loop-number.invariant fast old new)
 
 pub loop-number-preserved : goal.loop-number-preserved

@@ -14,7 +14,11 @@ returns-then-at-track-clause-first c =
     let i = c.loop-number.number in
     let lt = rw (c.hoists.ensures.value, e) at c.loop-number-test.true in
     let is = rw e at c.position-at.ensures.value in
-    let above : IsAbove l p (i / p.period) (i % p.period) = (row_below p.period i l.hoists lt, mod_below i p.period c.period-period.ensures.valid.period.0, omega (arith, is, c.if-at-track.true, c.track.ensures.value)) in
+    let above : IsAbove l p (i / p.period) (i % p.period) = (
+      row_below p.period i l.hoists lt,
+      mod_below i p.period c.period-period.ensures.valid.period.0,
+      omega (arith, is, c.if-at-track.true, c.track.ensures.value),
+    ) in
     rw e (track_first l p i c.position-at.result c.loop-number.invariant above is)
 
 pub loop-number-preserved : goal.loop-number-preserved

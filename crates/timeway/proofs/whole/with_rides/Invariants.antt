@@ -7,4 +7,5 @@ use Rattle.timeway.specs.Shapes.{ride}
 use Rattle.timeway.proofs.whole.with_rides.Given as goal
 
 abbrev pub invariant-loop-i : goal.invariant-loop-i
-invariant-loop-i l = l.plot ≡ holding_all l.fn.plot (map (λ i. ride l.line (timetable_of l.t) (move_at l.line i).carrier (move_at l.line i).step) (range_with_len 0 l.i))
+invariant-loop-i l = l.plot ≡ holding_all l.fn.plot (map (λ i. ride l.line (timetable_of l.t) (move_at l.line i).carrier
+    (move_at l.line i).step) (range_with_len 0 l.i))

@@ -28,9 +28,11 @@ returns-else-is_empty-clause-only c = λ log h.
 pub returns-in-Err-Broken-clause-found : goal.returns-in-Err-Broken-clause-found
 returns-in-Err-Broken-clause-found c =
     rw c.saturating_sub-in-Err-Broken.ensures (break_found c.args.line.now c.args.bytes.now c.in-Err-Broken.left c.walk.ensures.valid
-    (broken_is c.in-Err-Broken.field-0 c.in-Err-Broken.left (log_at c.args.line.now c.args.bytes.now) c.in-Err-Broken.field-0-is c.in-Err-Broken.ensures.broken))
+    (broken_is c.in-Err-Broken.field-0 c.in-Err-Broken.left (log_at c.args.line.now c.args.bytes.now)
+    c.in-Err-Broken.field-0-is c.in-Err-Broken.ensures.broken))
 
 pub returns-in-Err-Broken-clause-only : goal.returns-in-Err-Broken-clause-only
 returns-in-Err-Broken-clause-only c = λ log h.
     never_broken c.args.line.now c.args.bytes.now c.in-Err-Broken.left log c.walk.ensures.valid
-    (broken_is c.in-Err-Broken.field-0 c.in-Err-Broken.left (log_at c.args.line.now c.args.bytes.now) c.in-Err-Broken.field-0-is c.in-Err-Broken.ensures.broken) h
+    (broken_is c.in-Err-Broken.field-0 c.in-Err-Broken.left (log_at c.args.line.now c.args.bytes.now)
+    c.in-Err-Broken.field-0-is c.in-Err-Broken.ensures.broken) h

@@ -30,4 +30,5 @@ pub returns : goal.returns
 returns c =
     let l = c.args.line.now in
     let total = behind (lines_at l c.args.first (most_ticks - c.args.first) c.args.bytes.now) in
-    rw (behind_ends l c.loop-tick.tick c.loop-tick.rest.now total (inr (omega (arith, c.loop-tick-test.false, c.requires))) c.loop-tick.invariant) c.log_end-2.ensures
+    rw (behind_ends l c.loop-tick.tick c.loop-tick.rest.now total
+    (inr (omega (arith, c.loop-tick-test.false, c.requires))) c.loop-tick.invariant) c.log_end-2.ensures

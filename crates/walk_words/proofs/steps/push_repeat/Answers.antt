@@ -36,4 +36,5 @@ returns c =
           ),
         ),
       ),
-    )) (at_ok c.extend_from_slice-4.result c.push_place-2.new.text.items c.extend_from_slice-4.new.self.items (codes " is back where it began one period later") c.extend_from_slice-4.ensures.items)
+    )) (at_ok c.extend_from_slice-4.result c.push_place-2.new.text.items c.extend_from_slice-4.new.self.items
+    (codes " is back where it began one period later") c.extend_from_slice-4.ensures.items)

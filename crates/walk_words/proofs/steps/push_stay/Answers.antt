@@ -23,4 +23,5 @@ returns c =
           tt,
         ),
       ),
-    )) (at_ok c.extend_from_slice-2.result c.push_place.new.text.items c.extend_from_slice-2.new.self.items (codes " and stays there for at ") c.extend_from_slice-2.ensures.items)
+    )) (at_ok c.extend_from_slice-2.result c.push_place.new.text.items c.extend_from_slice-2.new.self.items
+    (codes " and stays there for at ") c.extend_from_slice-2.ensures.items)

@@ -42,7 +42,8 @@ returns-in_ok-push c =
     let P : List Decision → Type 0 = λ ds. ChoosesBelow l p ds (c.args.number + 1) in
     subst P (sym c.in_ok-push.ensures.items)
     (tank_chosen l p c.args.path.now.items c.args.number child v c.requires.chosen c.visit_at-v.ensures.value c.visit_at-v.ensures.there
-    (omega (arith, c.if-tanks-ge2.true, ap (λ (ts : List ℕ). length ts) read)) (slice_get_within (stage l v.stage).tanks child (p.tank v.carrier v.stage) get) get)
+    (omega (arith, c.if-tanks-ge2.true, ap (λ (ts : List ℕ). length ts) read))
+    (slice_get_within (stage l v.stage).tanks child (p.tank v.carrier v.stage) get) get)
 
 pub returns-else-tanks-ge2 : goal.returns-else-tanks-ge2
 returns-else-tanks-ge2 c =

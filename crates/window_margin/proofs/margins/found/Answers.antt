@@ -96,5 +96,6 @@ returns c =
     ∙ ap (λ (ks : List ℕ). named_walk l (margin_arcs l p path) ks) c.arcs.ensures in (
       c.requires.some,
       is_found l d c.in_ok-_sibling._sibling path limit s c.in_ok-walk.walk c.requires.valid c.requires.fits c.period-period.ensures.valid.period
-          c.in_ok-_sibling.ensures.fits.fits c.requires.legal c.in_ok-_sibling.ensures.legal c.in_ok-path.ensures.chosen h parts c.in_ok-_sibling.ensures.plan names,
+          c.in_ok-_sibling.ensures.fits.fits c.requires.legal c.in_ok-_sibling.ensures.legal c.in_ok-path.ensures.chosen
+          h parts c.in_ok-_sibling.ensures.plan names,
     )

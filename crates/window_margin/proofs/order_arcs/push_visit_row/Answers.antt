@@ -6,7 +6,8 @@ use Rattle.window_margin.proofs.PairLemmas.{rows_step, rows_done}
 use Rattle.window_margin.proofs.order_arcs.push_visit_row.Goals as goal
 
 pub loop-j-preserved : goal.loop-j-preserved
-loop-j-preserved c = rows_step (visit_row c.args.line.now (timetable_of c.args.t.now) c.args.i) c.loop-j.j _ _ _ c.loop-j.invariant c.in_ok-push_visits_at.ensures
+loop-j-preserved c = rows_step (visit_row c.args.line.now (timetable_of c.args.t.now) c.args.i) c.loop-j.j _ _ _
+    c.loop-j.invariant c.in_ok-push_visits_at.ensures
 
 pub returns : goal.returns
 returns c =

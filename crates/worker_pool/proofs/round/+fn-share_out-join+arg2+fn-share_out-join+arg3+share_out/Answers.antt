@@ -8,7 +8,8 @@ returns-clause-counts g t c =
     let n : ℕ = length c.args.jobs.now + 1 in
     let a : ℕ = length c.split_off.new.self.items in
     let b : ℕ = length c.in-Ok.others.items in
-    let all : a + b ≡ length c.args.rooms.items = cut_in_two _ c.args.rooms.items c.split_off.new.self.items c.in-Ok.others.items c.in-Ok.ensures.items c.in-Ok.ensures.tail in
+    let all : a + b ≡ length c.args.rooms.items = cut_in_two _ c.args.rooms.items c.split_off.new.self.items
+    c.in-Ok.others.items c.in-Ok.ensures.items c.in-Ok.ensures.tail in
     let shares : (a + b) * n ≡ length c.args.rooms.items * n = ap (λ k. k * n) all in
     omega (arith, c.joined.ensures.counts, c.join-mine.ensures.first.1, c.join-mine.ensures.second.1, share-sum a b n, shares)
 
@@ -16,6 +17,7 @@ pub returns-clause-rooms : goal.returns-clause-rooms
 returns-clause-rooms g t c =
     let a : ℕ = length c.split_off.new.self.items in
     let b : ℕ = length c.in-Ok.others.items in
-    let all : a + b ≡ length c.args.rooms.items = cut_in_two _ c.args.rooms.items c.split_off.new.self.items c.in-Ok.others.items c.in-Ok.ensures.items c.in-Ok.ensures.tail in
+    let all : a + b ≡ length c.args.rooms.items = cut_in_two _ c.args.rooms.items c.split_off.new.self.items
+    c.in-Ok.others.items c.in-Ok.ensures.items c.in-Ok.ensures.tail in
     let S : ℕ → Type 0 = λ k. IfOk c.joined.result.1 (λ part. Serve (g.W.Work.serves c.args.work.now) k part.1.items) in
     subst S all (c.joined.ensures.rooms a b c.join-mine.ensures.first.3 c.join-mine.ensures.second.3)

@@ -9,7 +9,8 @@ places-requires g c =
     let answers = g.W.Work.answers c.args.work.now in
     let jobs = c.args.jobs.now in
     let whole : SeatData = c.share_out-whole.result.0 in
-    let done : Done answers jobs whole c.in_ok-kept.kept.items = subst (λ r. IfOk r (λ part. Done answers jobs whole part.0.items)) c.in_ok-kept.was c.share_out-whole.ensures.done in
+    let done : Done answers jobs whole c.in_ok-kept.kept.items = subst
+    (λ r. IfOk r (λ part. Done answers jobs whole part.0.items)) c.in_ok-kept.was c.share_out-whole.ensures.done in
     numbers_below answers jobs whole.list c.in_ok-kept.kept.items done.1
 
 pub answers-requires : goal.answers-requires
@@ -17,7 +18,8 @@ answers-requires g c =
     let answers = g.W.Work.answers c.args.work.now in
     let jobs = c.args.jobs.now in
     let whole : SeatData = c.share_out-whole.result.0 in
-    let done : Done answers jobs whole c.in_ok-kept.kept.items = subst (λ r. IfOk r (λ part. Done answers jobs whole part.0.items)) c.in_ok-kept.was c.share_out-whole.ensures.done in
+    let done : Done answers jobs whole c.in_ok-kept.kept.items = subst
+    (λ r. IfOk r (λ part. Done answers jobs whole part.0.items)) c.in_ok-kept.was c.share_out-whole.ensures.done in
     let counts = c.share_out-whole.ensures.counts ∙ ap (λ k. k * (length jobs + 1)) c.in_ok-taken.ensures.taken.0 in
     let share : c.from.result * (length jobs + 1) ≡ c.args.workers * (length jobs + 1) = ap (λ k. k * (length jobs + 1)) c.from.ensures in
     let round = round_done answers jobs c.args.workers _ c.args.board.now c.args.seat.now c.split.new.seat c.join.new.seat whole c.in_ok-kept.kept.items
@@ -31,7 +33,8 @@ returns-clause-answers g c =
     let answers = g.W.Work.answers c.args.work.now in
     let jobs = c.args.jobs.now in
     let whole : SeatData = c.share_out-whole.result.0 in
-    let done : Done answers jobs whole c.in_ok-kept.kept.items = subst (λ r. IfOk r (λ part. Done answers jobs whole part.0.items)) c.in_ok-kept.was c.share_out-whole.ensures.done in
+    let done : Done answers jobs whole c.in_ok-kept.kept.items = subst
+    (λ r. IfOk r (λ part. Done answers jobs whole part.0.items)) c.in_ok-kept.was c.share_out-whole.ensures.done in
     let counts = c.share_out-whole.ensures.counts ∙ ap (λ k. k * (length jobs + 1)) c.in_ok-taken.ensures.taken.0 in
     let share : c.from.result * (length jobs + 1) ≡ c.args.workers * (length jobs + 1) = ap (λ k. k * (length jobs + 1)) c.from.ensures in
     let round = round_done answers jobs c.args.workers _ c.args.board.now c.args.seat.now c.split.new.seat c.join.new.seat whole c.in_ok-kept.kept.items
@@ -45,7 +48,8 @@ returns-clause-each g c =
     let answers = g.W.Work.answers c.args.work.now in
     let jobs = c.args.jobs.now in
     let whole : SeatData = c.share_out-whole.result.0 in
-    let done : Done answers jobs whole c.in_ok-kept.kept.items = subst (λ r. IfOk r (λ part. Done answers jobs whole part.0.items)) c.in_ok-kept.was c.share_out-whole.ensures.done in
+    let done : Done answers jobs whole c.in_ok-kept.kept.items = subst
+    (λ r. IfOk r (λ part. Done answers jobs whole part.0.items)) c.in_ok-kept.was c.share_out-whole.ensures.done in
     let counts = c.share_out-whole.ensures.counts ∙ ap (λ k. k * (length jobs + 1)) c.in_ok-taken.ensures.taken.0 in
     let share : c.from.result * (length jobs + 1) ≡ c.args.workers * (length jobs + 1) = ap (λ k. k * (length jobs + 1)) c.from.ensures in
     let round = round_done answers jobs c.args.workers _ c.args.board.now c.args.seat.now c.split.new.seat c.join.new.seat whole c.in_ok-kept.kept.items

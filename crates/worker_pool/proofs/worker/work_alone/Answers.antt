@@ -25,6 +25,7 @@ loop-number-preserved g c =
       c.in-Index.ensures.counts ∙ i.1,
       omega (arith, size, used, i.2),
       λ x. subst (λ (l : List ℕ). times x l ≤ once_below n x) (sym list) (once_more n c.in-Index.number before.list below answer.1 i.3 x),
-      subst (λ (l : List ℕ). Keeps (g.W.Work.answers c.args.work.now) c.args.jobs.now l c.keep_answer.new.kept.items) (sym list) (c.in-Ok.ensures.keeps before.list i.4),
+      subst (λ (l : List ℕ). Keeps (g.W.Work.answers c.args.work.now) c.args.jobs.now l c.keep_answer.new.kept.items)
+          (sym list) (c.in-Ok.ensures.keeps before.list i.4),
       c.in-Ok.ensures.room,
     )

@@ -14,7 +14,8 @@ loop-k-preserved c =
 
 pub returns : goal.returns
 returns c =
-    replaced_first c.self.inside.stack.items c.truncate.new.self.items c.loop-k.self-inside.stack.items c.args.paths.now c.args.self.now c.args.count _ c.loop-k.k c.self.view_is
+    replaced_first c.self.inside.stack.items c.truncate.new.self.items c.loop-k.self-inside.stack.items c.args.paths.now
+    c.args.self.now c.args.count _ c.loop-k.k c.self.view_is
     c.truncate.ensures.items (omega (
       arith,
       c.len.ensures,

@@ -7,4 +7,5 @@ loop-i-smaller c =
 
 pub loop-i-preserved : goal.loop-i-preserved
 loop-i-preserved c =
-    walked_next _ c.self.invariant.0 _ _ _ _ _ _ _ _ c.loop-i.invariant c.in-Some.ensures.items c.index.ensures c.children.ensures c.in_ok-push_reversed.ensures c.in_ok-push-2.ensures.items
+    walked_next _ c.self.invariant.0 _ _ _ _ _ _ _ _ c.loop-i.invariant c.in-Some.ensures.items c.index.ensures
+    c.children.ensures c.in_ok-push_reversed.ensures c.in_ok-push-2.ensures.items

@@ -24,6 +24,16 @@ fetch_add-found-requires c =
     let left : 0 < c.load.new.seat.me.0.left = subst (λ (u : View). 0 < u.left) (sym same) some_left in (
       search rules,
       search rules,
-      λ s holds homes at small.
-          (after_claim c.load.new.seat.me.0 (slice_index s.words 0), keeps, tt, claim_keeps _ _ _ _ _ holds at live left, (refl, refl, found_is_new _ _ _ _ _ holds at, claim_whole _ _ _ _ _ holds at live left)),
+      λ s holds homes at small. (
+        after_claim c.load.new.seat.me.0 (slice_index s.words 0),
+        keeps,
+        tt,
+        claim_keeps _ _ _ _ _ holds at live left,
+        (
+          refl,
+          refl,
+          found_is_new _ _ _ _ _ holds at,
+          claim_whole _ _ _ _ _ holds at live left,
+        ),
+      ),
     )

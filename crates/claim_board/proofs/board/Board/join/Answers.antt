@@ -11,6 +11,11 @@ pub load-requires : goal.load-requires
 load-requires c = (
   search rules,
   search rules,
-  λ s holds homes at small.
-      (c.join_seat.new.seat.me.0, keeps, tt, next_keeps _ _ _ _ _ holds at, (refl, refl, is_whole _ _ _ _ _ holds at (ap (λ m. m.0.spent) c.join_seat.ensures.2 ∙ c.seat.invariant.1))),
+  λ s holds homes at small. (
+    c.join_seat.new.seat.me.0,
+    keeps,
+    tt,
+    next_keeps _ _ _ _ _ holds at,
+    (refl, refl, is_whole _ _ _ _ _ holds at (ap (λ m. m.0.spent) c.join_seat.ensures.2 ∙ c.seat.invariant.1)),
+  ),
 )

@@ -11,7 +11,8 @@ use Rattle.node_expand.proofs.LeastLemmas.{least_found}
 use Rattle.node_expand.proofs.expander.Expander.expand_reached.Goals as goal
 
 -- a search moves only the place where the next one begins
-climbs_searched : (l : LineData) (old new : Climbs) → AreClimbs l old → (new.kept ≡ old.kept) × (new.next ≡ old.next) → new.found ≤ 512 → AreClimbs l new
+climbs_searched : (l : LineData) (old new : Climbs) → AreClimbs l old → (new.kept ≡ old.kept) × (new.next ≡ old.next)
+    → new.found ≤ 512 → AreClimbs l new
 climbs_searched l old new climbs same found =
     let P : Vec Climb Global → Type 0 = λ v. All (λ (climb : Climb). IsLeastPeriodOf l climb.path.items climb.least) v.items in
     let Q : Vec Climb Global → Type 0 = λ v. length v.items ≤ 512 in

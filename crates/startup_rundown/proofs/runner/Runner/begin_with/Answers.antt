@@ -14,5 +14,7 @@ returns-then-begins c =
     let steps : c.self.inside.timetable.now.steps ≡ r.timetable.steps = ap (λ (x : TimetableData). x.steps) d in
     let is = kept _ _ view c.self.invariant.0 in
     let lt : c.loop-step.step < last_stage r.line = omega (arith, c.loop-step-test.true, c.moves-step-end.ensures.value, is.fits.steps) in
-    let first = pick_first (last_stage r.line) c.loop-step.step (runners.begins_at r c.args.tick c.args.h c.args.c) (λ k. (timetable_of r.timetable).tank c.args.c (k + 1)) lt c.loop-step.invariant (sym c.begins.ensures ∙ c.if-begins.true) in
+    let first = pick_first (last_stage r.line) c.loop-step.step (runners.begins_at r c.args.tick c.args.h c.args.c)
+    (λ k. (timetable_of r.timetable).tank c.args.c (k + 1)) lt c.loop-step.invariant
+    (sym c.begins.ensures ∙ c.if-begins.true) in
     ap (λ (i : ℕ). Some i) c.tank.ensures.value ∙ ap (λ (x : TimetableData). Some ((timetable_of x).tank c.args.c (c.loop-step.step + 1))) d ∙ sym first

@@ -15,5 +15,6 @@ returns-then-carries c =
     let steps : c.self.inside.timetable.now.steps ≡ r.timetable.steps = ap (λ (x : TimetableData). x.steps) d in
     let is = kept _ _ view c.self.invariant.0 in
     let lt : c.loop-step.step < last_stage r.line = omega (arith, c.loop-step-test.true, c.moves-step-end.ensures.value, is.fits.steps) in
-    let first = pick_first (last_stage r.line) c.loop-step.step (runners.carries_into r c.args.tick c.args.h c.args.c) (λ k. c.args.c) lt c.loop-step.invariant (sym c.carries.ensures ∙ c.if-carries.true) in
+    let first = pick_first (last_stage r.line) c.loop-step.step (runners.carries_into r c.args.tick c.args.h c.args.c)
+    (λ k. c.args.c) lt c.loop-step.invariant (sym c.carries.ensures ∙ c.if-carries.true) in
     sym (ap is_some first)

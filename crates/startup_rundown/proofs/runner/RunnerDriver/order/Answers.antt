@@ -23,5 +23,11 @@ returns-clause-command c =
     let inv = c.loop-h.invariant in
     let view = ap (λ (x : runners.RunnerData). x.line.hoists) c.self.view_is in
     let done : (h : ℕ) → h < r.line.hoists → h < c.loop-h.h = λ h lt. omega (arith, c.loop-h-test.false, c.hoists-h-end.ensures.value, view) in
-    order_is r c.args.tick (record { go = into.go; begin = into.begin; off = c.takes_off-into.result; put = c.puts_on-into.result }) (kept _ _ c.self.view_is c.self.invariant.0) (record { go = inv.0.go; begin = inv.0.begin })
+    order_is r c.args.tick (record {
+      go = into.go;
+      begin = into.begin;
+      off = c.takes_off-into.result;
+      put = c.puts_on-into.result;
+    }) (kept _ _ c.self.view_is c.self.invariant.0)
+    (record { go = inv.0.go; begin = inv.0.begin })
     (λ h lt. inv.1 h (done h lt)) (λ h lt. inv.2 h (done h lt)) c.takes_off-into.ensures c.puts_on-into.ensures

@@ -23,5 +23,6 @@ invariant_of-self-2 g c =
       frame = subst (λ (f : Frame). IsFrame line f) (sym c.swap.ensures.x_after) (record { sized = c.in_ok-breach.ensures.sized; rules = rules_kept });
       next = subst (λ (f : Frame). IsSized line f) (sym c.swap.ensures.y_after) c.self.invariant.frame.sized;
       order = search rules;
-      below = subst (λ (f : Frame). IsBelow (t + 1 + 1) (scene_of f)) (sym c.swap.ensures.x_after) (next_below l t (t + 1) o before after c.self.invariant.below next);
+      below = subst (λ (f : Frame). IsBelow (t + 1 + 1) (scene_of f)) (sym c.swap.ensures.x_after)
+          (next_below l t (t + 1) o before after c.self.invariant.below next);
     }
