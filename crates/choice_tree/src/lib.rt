@@ -5,8 +5,6 @@ mod constraint;
 pub mod laws;
 mod node;
 mod question;
-#[cfg(test)]
-mod tests;
 mod tree;
 
 pub use constraint::{Constraint, Proof};

@@ -11,6 +11,3 @@ mod seat;
 pub use board::Board;
 pub use claim::Claim;
 pub use seat::Seat;
-
-#[cfg(test)]
-mod tests;

@@ -5,8 +5,6 @@ mod corner;
 pub mod laws;
 mod pairs;
 mod span;
-#[cfg(test)]
-mod tests;
 
 pub use pairs::clash;
 pub use span::Span;

@@ -8,8 +8,6 @@
 mod fields;
 pub mod laws;
 mod stop;
-#[cfg(test)]
-mod tests;
 
 pub use fields::{kind, known_number, known_pair, number, signed, word};
 pub use stop::Stop;

@@ -4,8 +4,6 @@
 mod front;
 mod list;
 mod read;
-#[cfg(test)]
-mod tests;
 
 pub use list::FileList;
 pub use read::{ListRead, read_list};

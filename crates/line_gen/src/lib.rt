@@ -4,7 +4,5 @@
 mod choices;
 mod draws;
 mod generator;
-#[cfg(test)]
-mod tests;
 
 pub use generator::line_of;

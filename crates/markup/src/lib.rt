@@ -5,8 +5,6 @@
 mod element;
 mod escape;
 pub mod laws;
-#[cfg(test)]
-mod tests;
 mod whole;
 mod words;
 

@@ -7,9 +7,6 @@ ghost use Rattle.hoist_base.specs.Routes.{IsRoute, route_tank};
 ghost use Rattle.line_model.specs.Motion.{IsMotion, Reaches, ReachesMotion, motion_by};
 ghost use Rattle.line_model.specs.Motion as motion;
 
-#[cfg(test)]
-mod tests;
-
 use hoist_base::{Line, MoveId, Route};
 pub use line_model::Motion;
 

@@ -9,8 +9,6 @@ mod places;
 mod steps;
 mod sums;
 mod table;
-#[cfg(test)]
-mod tests;
 
 pub use periods::{Periods, periods_of, sums_words};
 pub use steps::step_words;

@@ -3,8 +3,6 @@
 
 mod build;
 mod lines;
-#[cfg(test)]
-mod tests;
 
 pub use build::{Numbers, Row, line_of_rows};
 pub use lines::{

@@ -1,7 +1,7 @@
 // What sums of walks say of the period.
-use crate::{Periods, periods_of, sums_words};
 use cycle_walk::Sums;
 use std::test::Fail;
+use walk_words::{Periods, periods_of, sums_words};
 
 const LEAST: &[u8] = b"the walk takes 621 ticks in 2 periods, so the period is at least 311";
 

@@ -4,7 +4,7 @@ ghost use Rattle.hoist_base.specs.LineData.{IsStep};
 ghost use Rattle.line_model.specs.Motion.{IsMotion};
 ghost use Rattle.line_model.specs.Motion as motion;
 
-use crate::{Span, clash};
+use collision_pairs::{Span, clash};
 use hoist_base::{Line, MoveId};
 use move_list::{Motion, duration, motion_of, place};
 use std::alloc::Global;

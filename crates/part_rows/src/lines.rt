@@ -1,7 +1,9 @@
-use crate::build::{Numbers, Row, line_of_rows, load, unload};
-use crate::lines;
 use hoist_base::{Line, Stage, Tank};
 use std::test::Fail;
+use worked_lines::{
+    Numbers, Row, far_tank, line_of_rows, one_bath, one_station, rinse_twice, slow_choice,
+    thirteen_stages, two_baths, two_hoists, two_stations,
+};
 
 /// A sum of numbers, each times its place in their list, counted from 1.
 #[derive(Clone, Copy)]
@@ -79,30 +81,22 @@ fn sums(line: Option<Line>) -> [u32; 7] {
 #[test]
 fn worked_lines_are_those_of_the_files(rt: HostRuntime) -> Result<(), Fail> {
     let alloc = rt.alloc();
-    assert_eq!(rt; sums(lines::two_stations(alloc)), [8, 1104, 5, 0, 0, 1, 2]);
-    assert_eq!(rt; sums(lines::one_bath(alloc)), [24, 2278, 14, 10, 20, 3, 5]);
-    assert_eq!(rt;
-        sums(lines::two_hoists(alloc)),
-        [24, 2278, 14, 10, 20, 3, 5]
-    );
-    assert_eq!(rt;
-        sums(lines::rinse_twice(alloc)),
-        [20, 2356, 42, 9, 0, 10, 14]
-    );
-    assert_eq!(rt; sums(lines::one_station(alloc)), [6, 1061, 8, 10, 20, 3, 5]);
-    assert_eq!(rt;
-        sums(lines::thirteen_stages(alloc)),
-        [2288, 36747, 733, 7945, 4530, 624, 720]
-    );
-    assert_eq!(rt; sums(lines::far_tank(alloc)), [44, 3530, 26, 10, 20, 3, 5]);
-    assert_eq!(rt;
-        sums(lines::two_baths(alloc)),
-        [40, 2280, 29, 40, 120, 3, 5]
-    );
-    assert_eq!(rt;
-        sums(lines::slow_choice(alloc)),
-        [44, 2670, 30, 100, 0, 3, 5]
-    );
+    for (line, want) in [
+        (two_stations(alloc), [8, 1104, 5, 0, 0, 1, 2]),
+        (one_bath(alloc), [24, 2278, 14, 10, 20, 3, 5]),
+        (two_hoists(alloc), [24, 2278, 14, 10, 20, 3, 5]),
+        (rinse_twice(alloc), [20, 2356, 42, 9, 0, 10, 14]),
+        (one_station(alloc), [6, 1061, 8, 10, 20, 3, 5]),
+        (
+            thirteen_stages(alloc),
+            [2288, 36747, 733, 7945, 4530, 624, 720],
+        ),
+        (far_tank(alloc), [44, 3530, 26, 10, 20, 3, 5]),
+        (two_baths(alloc), [40, 2280, 29, 40, 120, 3, 5]),
+        (slow_choice(alloc), [44, 2670, 30, 100, 0, 3, 5]),
+    ] {
+        assert_eq!(rt; sums(line), want);
+    }
     Ok(())
 }
 
@@ -119,19 +113,37 @@ fn broken_rows_make_no_line(rt: HostRuntime) -> Result<(), Fail> {
         unload: 0,
     };
     let tight = Numbers { gap: 7, ..numbers };
-    let load = load(&[0], 1);
-    let out = unload(&[1], 1);
+    let load = Row {
+        tanks: &[0],
+        min: 0,
+        max: None,
+        lift: 1,
+        lower: 0,
+    };
+    let out = Row {
+        tanks: &[1],
+        lift: 0,
+        lower: 1,
+        ..load
+    };
     let back = Row { tanks: &[0], ..out };
     let far = Row { tanks: &[2], ..out };
-    let tanks = [("load", 0), ("out", 6)];
-    assert!(rt; line_of_rows(alloc, numbers, &tanks, &[load, out]).is_some());
-    assert!(rt; line_of_rows(alloc, tight, &tanks, &[load, out]).is_none());
-    assert!(rt; line_of_rows(alloc, numbers, &tanks, &[load, back]).is_none());
-    assert!(rt; line_of_rows(alloc, numbers, &tanks, &[load, far]).is_none());
-    assert!(rt; line_of_rows(alloc, numbers, &tanks, &[out, load]).is_none());
-    assert!(rt; line_of_rows(alloc, numbers, &[("load", 0), ("out", 0)], &[load, out]).is_none());
-    assert!(rt; line_of_rows(alloc, numbers, &[("out", 0), ("out", 6)], &[load, out]).is_none());
-    assert!(rt; line_of_rows(alloc, numbers, &[("load", 0), ("out", 7)], &[load, out]).is_none());
-    assert!(rt; line_of_rows(alloc, numbers, &[("load", 0), ("o t", 6)], &[load, out]).is_none());
+    let right = [("load", 0), ("out", 6)];
+    for (numbers, tanks, rows, is_line) in [
+        (numbers, right, [load, out], true),
+        (tight, right, [load, out], false),
+        (numbers, right, [load, back], false),
+        (numbers, right, [load, far], false),
+        (numbers, right, [out, load], false),
+        (numbers, [("load", 0), ("out", 0)], [load, out], false),
+        (numbers, [("out", 0), ("out", 6)], [load, out], false),
+        (numbers, [("load", 0), ("out", 7)], [load, out], false),
+        (numbers, [("load", 0), ("o t", 6)], [load, out], false),
+    ] {
+        assert_eq!(rt;
+            line_of_rows(alloc, numbers, &tanks, &rows).is_some(),
+            is_line
+        );
+    }
     Ok(())
 }

@@ -1,6 +1,6 @@
 // Motions of the worked lines.
-use crate::{Motion, duration, motion_of, place, reaches, reaches_place};
 use hoist_base::MoveId;
+use move_list::{Motion, duration, motion_of, place, reaches, reaches_place};
 use std::test::Fail;
 use worked_lines::{thirteen_stages, two_hoists};
 

@@ -1,6 +1,6 @@
 // Lists of files, and where they break.
 
-use crate::{ListRead, read_list};
+use file_list::{ListRead, read_list};
 use std::alloc::{AllocError, Global};
 use std::test::Fail;
 

@@ -1,6 +1,6 @@
 // Numbers, signed numbers and words, and where they break.
 
-use crate::{Stop, known_pair, number, signed, word};
+use field_reading::{Stop, known_pair, number, signed, word};
 use std::test::Fail;
 
 /// What a reader should give: the value, or that it breaks; and how many bytes are left.

@@ -1,6 +1,6 @@
 ghost use Rattle.std.specs.Prelude.{◌≡◌};
 
-use crate::{Constraint, Decision, Node, Proof, Question, Tree};
+use choice_tree::{Constraint, Decision, Node, Proof, Question, Tree};
 use hoist_base::{MoveId, VisitId};
 use std::test::Fail;
 

@@ -2,7 +2,7 @@
 
 ghost use Rattle.std.specs.Prelude.{◌≡◌, ◌<◌};
 
-use crate::{Board, Claim, Seat};
+use claim_board::{Board, Claim, Seat};
 use std::test::Fail;
 use std::thread::{Threads, join};
 

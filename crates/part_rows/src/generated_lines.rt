@@ -1,6 +1,6 @@
 // Lines of some seeds. The numbers of seed 0 are worked by hand, those of the others by a script that follows the rule.
-use crate::line_of;
 use hoist_base::Line;
+use line_gen::line_of;
 use std::alloc::{AllocError, Global};
 use std::test::Fail;
 

@@ -1,5 +1,5 @@
 // A small document, as bytes.
-use crate::{Element, Key, Tag, document};
+use markup::{Element, Key, Tag, document};
 use std::alloc::{AllocError, Global};
 use std::test::Fail;
 
