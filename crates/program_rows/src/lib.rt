@@ -1,4 +1,5 @@
-//! What the whole programs do over files in memory: each command once, faults of files, and proposals of other bytes.
+//! What the whole programs do over files in memory: each command once, faults of files, proposals of other bytes, and
+//! pages and documents.
 //! The linked programs are held against tables by `.ci/commands`.
 #![tactic(auto)]
 
@@ -8,6 +9,8 @@ mod answers;
 mod commands;
 #[cfg(test)]
 mod faults;
+#[cfg(test)]
+mod reports;
 #[cfg(test)]
 mod runs;
 #[cfg(test)]

@@ -1,6 +1,7 @@
 // Words and files, and how the program ends over them.
-use crate::answers::{NO_SPLIT_ANSWER, REJECTED_ANSWER, TWO_HOISTS_ANSWER};
-use crate::runs::{run, run_with_write_fault};
+use crate::answers::TWO_HOISTS_ANSWER;
+use crate::reports::answers::{NO_SPLIT_ANSWER, REJECTED_ANSWER};
+use crate::reports::runs::{run, run_with_write_fault};
 use hoist_cli::Status;
 use std::test::Fail;
 

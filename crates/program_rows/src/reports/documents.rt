@@ -1,6 +1,6 @@
 // The document of JSON, read back.
 use crate::answers::TWO_HOISTS_ANSWER;
-use crate::runs::run;
+use crate::reports::runs::run;
 use hoist_cli::Status;
 use serde_json::Value;
 use std::test::Fail;

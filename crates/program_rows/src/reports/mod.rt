@@ -1,0 +1,6 @@
+// The program `hoist_report`.
+
+mod answers;
+mod documents;
+mod ends;
+mod runs;
